@@ -1,0 +1,84 @@
+// The answer of a call: done with a count, or refused for one of nine reasons.
+//
+// `coded` in specs/ gives each case its number and its count; every contract of the store speaks of answers through it.
+ghost use mathlib.Core.Path.{_≡_};
+ghost use Rattle.answer.specs.Answer.{coded, codedRefusal};
+
+// The nine refusals, in the order in which they are tested.
+pub enum Refusal {
+    // The session line has none of the forms.
+    Line,
+    // A borrowed slice has the wrong length.
+    Shape,
+    // A stored size is above the greatest file size.
+    Media,
+    // The cache state is not sound.
+    Books,
+    // The device is not mounted.
+    Down,
+    // The file number is above the last file.
+    NoFile,
+    // A position, a length or a size is past the greatest file size.
+    Range,
+    // No page frame is free for the first page of a write.
+    NoRoom,
+    // The budget paid for this many media writes, and more were needed.
+    Cut(usize),
+}
+
+pub enum Answer {
+    Done(usize),
+    Refused(Refusal),
+}
+
+// The number of an answer: 0 where it is done, 1 to 9 for the refusals.
+pub fn number(a: Answer) -> u8
+    ensures { λ r. ⌜ r ≡ (coded a) .number ⌝ }
+{
+    match a {
+        Answer::Done(_) => 0,
+        Answer::Refused(refusal) => refusal_number(refusal),
+    }
+}
+
+// The count of an answer: 0 for every refusal but CUT.
+pub fn count(a: Answer) -> usize
+    ensures { λ r. ⌜ r ≡ (coded a) .count ⌝ }
+{
+    match a {
+        Answer::Done(n) => n,
+        Answer::Refused(refusal) => refusal_count(refusal),
+    }
+}
+
+fn refusal_number(refusal: Refusal) -> u8
+    ensures { λ r. ⌜ r ≡ (codedRefusal refusal) .number ⌝ }
+{
+    match refusal {
+        Refusal::Line => 1,
+        Refusal::Shape => 2,
+        Refusal::Media => 3,
+        Refusal::Books => 4,
+        Refusal::Down => 5,
+        Refusal::NoFile => 6,
+        Refusal::Range => 7,
+        Refusal::NoRoom => 8,
+        Refusal::Cut(_) => 9,
+    }
+}
+
+fn refusal_count(refusal: Refusal) -> usize
+    ensures { λ r. ⌜ r ≡ (codedRefusal refusal) .count ⌝ }
+{
+    match refusal {
+        Refusal::Line => 0,
+        Refusal::Shape => 0,
+        Refusal::Media => 0,
+        Refusal::Books => 0,
+        Refusal::Down => 0,
+        Refusal::NoFile => 0,
+        Refusal::Range => 0,
+        Refusal::NoRoom => 0,
+        Refusal::Cut(n) => n,
+    }
+}

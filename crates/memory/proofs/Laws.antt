@@ -1,0 +1,108 @@
+-- Laws of zeros, parts and overwriting: the length, and the byte at each index.
+use mathlib.Core.Path.{_≡_, refl, sym, ap, _∙_}
+use mathlib.Core.List.{List, [], _∷_, _++_}
+use Prim.Native.Nat.{ℕ, zero, suc, _+_, _-_, _<_, _≤_, min}
+use native.Mathlib.Omega.{arith}
+use native.Mathlib.Nat.{not-suc-le-zero, le-of-suc-le-suc, zero-add, suc-add, sub-zero, suc-sub-suc}
+use native.Mathlib.Numerals.{add-one}
+use lib.ListN.{length, getD, set, take, drop, replicate, length-take, length-drop, length-replicate}
+use lib.Seq.{take-nil, drop-nil, drop-drop, getD-take, getD-drop}
+use borrow.Rule.Slice.PartMut.{putMid}
+use Rattle.memory.specs.Bytes.{zeros, part, overwrite}
+
+-- ---- zeros
+
+pub getD-zeros : (n i : ℕ) → getD (zeros n) i 0 ≡ 0
+getD-zeros zero i = refl
+getD-zeros (suc n) zero = refl
+getD-zeros (suc n) (suc i) = getD-zeros n i
+
+-- ---- parts
+
+module _ (xs : List ℕ) (a n : ℕ) where
+  pub length-part : a + n ≤ length xs → length (part xs a n) ≡ n
+  length-part h = simp (length-take, length-drop) (omega arith)
+
+  pub getD-part : (i : ℕ) → i < n → getD (part xs a n) i 0 ≡ getD xs (a + i) 0
+  getD-part i h = rw (getD-take, getD-drop)
+
+-- ---- overwriting
+
+pub length-overwrite : (xs : List ℕ) (a : ℕ) (ys : List ℕ) → length (overwrite xs a ys) ≡ length xs
+length-overwrite [] a ys = refl
+length-overwrite (x ∷ xs) (suc a) ys = ap suc (length-overwrite xs a ys)
+length-overwrite (x ∷ xs) zero [] = refl
+length-overwrite (x ∷ xs) zero (y ∷ ys) = ap suc (length-overwrite xs zero ys)
+
+pub overwrite-none : (xs : List ℕ) (a : ℕ) → overwrite xs a [] ≡ xs
+overwrite-none [] a = refl
+overwrite-none (x ∷ xs) (suc a) = ap (λ (l : List ℕ). x ∷ l) (overwrite-none xs a)
+overwrite-none (x ∷ xs) zero = refl
+
+-- the byte before, in and after what is laid over
+pub overwrite-before : (xs : List ℕ) (a : ℕ) (ys : List ℕ) (i : ℕ) → i < a → getD (overwrite xs a ys) i 0 ≡ getD xs i 0
+overwrite-before [] a ys i h = refl
+overwrite-before (x ∷ xs) (suc a) ys zero h = refl
+overwrite-before (x ∷ xs) (suc a) ys (suc i) h = overwrite-before xs a ys i (le-of-suc-le-suc h)
+overwrite-before (x ∷ xs) zero ys i h = absurd (not-suc-le-zero h)
+
+pub overwrite-in : (xs : List ℕ) (a : ℕ) (ys : List ℕ) (i : ℕ) → a ≤ i → i < a + length ys → i < length xs → getD (overwrite xs a ys) i 0 ≡ getD ys (i - a) 0
+overwrite-in [] a ys i h k l = absurd (not-suc-le-zero l)
+overwrite-in (x ∷ xs) (suc a) ys zero h k l = absurd (not-suc-le-zero h)
+overwrite-in (x ∷ xs) (suc a) ys (suc i) h k l = rw suc-sub-suc (overwrite-in xs a ys i (le-of-suc-le-suc h) (omega arith) (le-of-suc-le-suc l))
+overwrite-in (x ∷ xs) zero [] i h k l = absurd (omega arith)
+overwrite-in (x ∷ xs) zero (y ∷ ys) zero h k l = refl
+overwrite-in (x ∷ xs) zero (y ∷ ys) (suc i) h k l =
+    rw sub-zero (rw sub-zero at (overwrite-in xs zero ys i (omega arith) (omega arith) (le-of-suc-le-suc l)))
+
+pub overwrite-after : (xs : List ℕ) (a : ℕ) (ys : List ℕ) (i : ℕ) → a + length ys ≤ i → getD (overwrite xs a ys) i 0 ≡ getD xs i 0
+overwrite-after [] a ys i h = refl
+overwrite-after (x ∷ xs) (suc a) ys zero h = absurd (omega arith)
+overwrite-after (x ∷ xs) (suc a) ys (suc i) h = overwrite-after xs a ys i (omega arith)
+overwrite-after (x ∷ xs) zero [] i h = refl
+overwrite-after (x ∷ xs) zero (y ∷ ys) zero h = absurd (omega arith)
+overwrite-after (x ∷ xs) zero (y ∷ ys) (suc i) h = overwrite-after xs zero ys i (omega arith)
+
+-- a list as long as the whole takes its place
+pub overwrite-whole : (xs ys : List ℕ) → length ys ≡ length xs → overwrite xs 0 ys ≡ ys
+overwrite-whole [] [] e = refl
+overwrite-whole [] (y ∷ ys) e = absurd (omega arith)
+overwrite-whole (x ∷ xs) [] e = absurd (omega arith)
+overwrite-whole (x ∷ xs) (y ∷ ys) e = ap (λ (l : List ℕ). y ∷ l) (overwrite-whole xs ys (omega arith))
+
+-- what does not fit is left out
+pub overwrite-fits : (xs ys : List ℕ) (n : ℕ) → min (length xs) (length ys) ≤ n → overwrite xs 0 (take n ys) ≡ overwrite xs 0 ys
+overwrite-fits [] ys n h = refl
+overwrite-fits (x ∷ xs) [] zero h = refl
+overwrite-fits (x ∷ xs) [] (suc n) h = refl
+overwrite-fits (x ∷ xs) (y ∷ ys) zero h = absurd (omega arith)
+overwrite-fits (x ∷ xs) (y ∷ ys) (suc n) h = ap (λ (l : List ℕ). y ∷ l) (overwrite-fits xs ys n (omega arith))
+
+-- one byte more
+pub overwrite-next : (xs ys : List ℕ) (i : ℕ) → i < length xs → i < length ys → set (overwrite xs 0 (take i ys)) i (getD ys i 0) ≡ overwrite xs 0 (take (i + 1) ys)
+overwrite-next xs ys i h k = rw add-one (go xs ys i h k)
+  where
+    go : (xs ys : List ℕ) (i : ℕ) → i < length xs → i < length ys → set (overwrite xs 0 (take i ys)) i (getD ys i 0) ≡ overwrite xs 0 (take (suc i) ys)
+    go [] ys i h k = absurd (not-suc-le-zero h)
+    go (x ∷ xs) [] i h k = absurd (not-suc-le-zero k)
+    go (x ∷ xs) (y ∷ ys) zero h k = ap (λ (l : List ℕ). y ∷ l) (sym (overwrite-none xs 0))
+    go (x ∷ xs) (y ∷ ys) (suc i) h k = ap (λ (l : List ℕ). y ∷ l) (go xs ys i (le-of-suc-le-suc h) (le-of-suc-le-suc k))
+
+-- cut at the ends of what is laid over
+pub overwrite-cut : (xs : List ℕ) (a : ℕ) (ys : List ℕ) → a + length ys ≤ length xs → overwrite xs a ys ≡ take a xs ++ (ys ++ drop (a + length ys) xs)
+overwrite-cut [] a [] h = simp (take-nil, drop-nil)
+overwrite-cut [] a (y ∷ ys) h = absurd (omega arith)
+overwrite-cut (x ∷ xs) (suc a) ys h = rw suc-add (ap (λ (l : List ℕ). x ∷ l) (overwrite-cut xs a ys (omega arith)))
+overwrite-cut (x ∷ xs) zero [] h = refl
+overwrite-cut (x ∷ xs) zero (y ∷ ys) h =
+    rw zero-add (ap (λ (l : List ℕ). y ∷ l) (rw zero-add at (overwrite-cut xs zero ys (omega arith))))
+
+-- what a callee that borrowed `&mut xs[a..e]` left there, said of the whole
+pub put-back : (a e : ℕ) (xs ys : List ℕ) → length ys ≡ e - a → a ≤ e → e ≤ length xs → putMid a (e - a) xs ys ≡ overwrite xs a ys
+put-back a e xs ys h k l = rw (overwrite-cut xs a ys (omega arith), ← h, drop-drop)
+
+-- the part was cleared
+pub put-zeros : (a e : ℕ) (xs ys : List ℕ) → ys ≡ zeros (length (part xs a (e - a))) → a ≤ e → e ≤ length xs → putMid a (e - a) xs ys ≡ overwrite xs a (zeros (e - a))
+put-zeros a e xs ys h k l =
+    let q : ys ≡ zeros (e - a) = h ∙ ap zeros (length-part xs a (e - a) (omega arith)) in
+    rw q (put-back a e xs (zeros (e - a)) (length-replicate (e - a) 0) k l)
