@@ -1,5 +1,4 @@
 -- The order of refusals: a call names its tests in order, and is refused by the first that fails.
-use Prim.Native.Nat.{ℕ}
 use mathlib.Core.Bool.{Bool, cond}
 use mathlib.Core.List.{List, [], _∷_}
 use lib.Dec.{eqb}

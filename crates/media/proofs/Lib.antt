@@ -1,1 +1,3 @@
-pub mod Laws
+pub mod Geometry
+pub mod Write
+pub mod Direct

@@ -37,8 +37,11 @@ unfoldable pub sizeAfter : ℕ → Media → ℕ → ℕ → Media
 sizeAfter P m f n = ifDone (sizeAnswer P m f n) (apply P m (size f n)) m
 
 -- TRIM: the tests of SIZE, and n is not above the stored size
+abbrev pub storedTest : Media → ℕ → ℕ → Test
+storedTest m f n = test (leb n (sizeAt m f)) RANGE
+
 unfoldable pub trimAnswer : ℕ → Media → ℕ → ℕ → Coded
-trimAnswer P m f n = firstRefusal (sizeTests P m f n ++ (test (leb n (sizeAt m f)) RANGE ∷ [])) (done 0)
+trimAnswer P m f n = firstRefusal (sizeTests P m f n ++ (storedTest m f n ∷ [])) (done 0)
 
 unfoldable pub trimAfter : ℕ → Media → ℕ → ℕ → Media
 trimAfter P m f n = ifDone (trimAnswer P m f n) (apply P m (trim f n)) m

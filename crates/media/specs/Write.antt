@@ -1,9 +1,10 @@
 -- The media, and its three writes as data: document 01, "The media". Each is done whole or not at all.
-use Prim.Native.Nat.{ℕ, _+_, _-_}
+use Prim.Native.Nat.{ℕ, _+_, _-_, _≤_, _<_}
+use mathlib.Core.Path.{_≡_}
 use mathlib.Core.List.{List, [], _∷_}
-use lib.ListN.{getD, set}
+use lib.ListN.{length, getD, set}
 use Rattle.memory.specs.Bytes.{zeros, overwrite}
-use Rattle.media.specs.Geometry.{fileBytes, fileStart, pageStart}
+use Rattle.media.specs.Geometry.{files, pageBytes, fileBytes, fileStart, pageStart}
 
 -- the bytes of the files, one file after the other, and their stored sizes
 pub record Media : Type 0 where
@@ -34,6 +35,23 @@ abbrev pub apply : ℕ → Media → MediaWrite → Media
 apply P m (page f p bytes) = mediaOf (overwrite (m .bytes) (pageStart P f p) bytes) (m .sizes)
 apply P m (size f n) = mediaOf (m .bytes) (set (m .sizes) f n)
 apply P m (trim f n) = mediaOf (overwrite (m .bytes) (fileStart P f + n) (zeros (fileBytes P - n))) (set (m .sizes) f n)
+
+-- within the limits of the media
+abbrev pub InLimits : ℕ → MediaWrite → Type 0
+InLimits P (page f p bytes) = (f < files) × (p < P) × (length bytes ≡ pageBytes)
+InLimits P (size f n) = (f < files) × (n ≤ fileBytes P)
+InLimits P (trim f n) = (f < files) × (n ≤ fileBytes P)
+
+-- the file that a write is to
+abbrev pub fileOf : MediaWrite → ℕ
+fileOf (page f p bytes) = f
+fileOf (size f n) = f
+fileOf (trim f n) = f
+
+-- every write of a list is so
+abbrev pub Each : (MediaWrite → Type 0) → List MediaWrite → Type 0
+Each Q [] = Unit {0}
+Each Q (w ∷ ws) = Q w × Each Q ws
 
 -- the media after a list of writes, in their order
 abbrev pub applyAll : ℕ → Media → List MediaWrite → Media

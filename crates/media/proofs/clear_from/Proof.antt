@@ -1,68 +1,53 @@
-use mathlib.Core.Path.{_≡_, refl, sym, _∙_, ap}
+-- `media::clear_from` meets its contract: the part that is cleared lies within the media.
+use mathlib.Core.Path.{_≡_, _∙_}
 use Prim.Native.Nat.{ℕ, _+_, _-_, _≤_}
 use native.Mathlib.Omega.{arith}
-use mathlib.Core.List.{List}
-use lib.ListN.{length}
-use Rattle.memory.specs.Bytes.{zeros, overwrite}
-use Rattle.memory.proofs.Laws.{put-zeros}
+use Rattle.memory.proofs.Bytes.{put-zeros}
 use Rattle.media.specs.Geometry.{fileBytes, mediaBytes, fileStart}
-use Rattle.media.proofs.Laws.{file-end}
+use Rattle.media.proofs.Geometry.{file-end}
 use borrow.Author.Needs.{needs}
 use Rattle.media.proofs.clear_from.Statement.{statement}
 use Rattle.media.proofs.clear_from.Tie as tie
-use Rattle.media.proofs.clear_from.Reads as reads
-use Rattle.media.proofs.clear_from.Lts as lts
-use Rattle.memory.proofs.clear.Reads as clear-reads
 
--- src/lib.rt:98:20
 mul-file-len : tie.Need-mul-file-len
 mul-file-len c = search needs
 
+-- the file ends within the media
 ends : (c : tie.After-slice-known) → fileStart (c .before .args .pages) (c .before .args .file) + fileBytes (c .before .args .pages) ≤ mediaBytes (c .before .args .pages)
 ends c = file-end _ _ (omega arith)
 
--- src/lib.rt:99:17
 mul-start : tie.Need-mul-start
 unfolding fileStart
 mul-start c = omega (arith, ends c)
 
--- src/lib.rt:99:17
 add-start : tie.Need-add-start
 unfolding fileStart
 add-start c = omega (arith, ends c)
 
--- src/lib.rt:100:15
 mul-end : tie.Need-mul-end
 unfolding fileStart
 mul-end c = omega (arith, ends c)
 
--- src/lib.rt:100:15
 add-end : tie.Need-add-end
 unfolding fileStart
 add-end c = omega (arith, ends c)
 
--- src/lib.rt:101:19
 sub-clear : tie.Need-sub-clear
 sub-clear c = search needs
 
--- src/lib.rt:101:19
 part-clear-start : tie.Need-part-clear-start
 part-clear-start c = search needs
 
--- src/lib.rt:101:19
 part-clear-end : tie.Need-part-clear-end
 unfolding fileStart
 part-clear-end c = omega (arith, ends c)
 
--- src/lib.rt:101:5
 clear-requires : tie.Need-clear-requires
 clear-requires c κs = search needs
 
--- src/lib.rt:94:1
 same-length : tie.Need-same-length
 same-length c = search needs
 
--- src/lib.rt:94:1
 returns : tie.Need-returns
 unfolding fileStart
 returns c =

@@ -1,96 +1,80 @@
-use mathlib.Core.Path.{_≡_, refl, sym, _∙_, ap}
+-- `media::trim_in` meets its contract: what `admit` answers decides, then the stored size.
+use mathlib.Core.Path.{sym, _∙_, ap}
 use mathlib.Core.List.{List}
 use Prim.Native.Nat.{ℕ}
 use native.Mathlib.Omega.{arith}
 use lib.ListN.{set}
 use Rattle.answer.specs.Answer.{coded}
 use Rattle.media.specs.Write.{mediaOf}
-use Rattle.media.proofs.Laws.{Admitted, admitted, trim-range, trim-unchanged, trim-done, trim-after, trim-refused, trim-left}
+use Rattle.media.proofs.Direct.{Admitted, admitted, trim-range, trim-done, trim-after, trim-refused, trim-unchanged}
+use Rattle.answer.specs.declared.Refusal.the-variants.{Range}
 use borrow.Author.Needs.{needs}
 use Rattle.media.proofs.trim_in.Statement.{statement}
 use Rattle.media.proofs.trim_in.Tie as tie
-use Rattle.media.proofs.trim_in.Reads as reads
-use Rattle.media.proofs.trim_in.Lts as lts
-use Rattle.media.proofs.admit.Reads as admit-reads
-use Rattle.media.proofs.clear_from.Reads as clear-from-reads
 
--- src/lib.rt:78:9
 admit-requires : tie.Need-admit-requires
 admit-requires c κs = search needs
 
--- src/lib.rt:80:25
 enum-known-admission : tie.Need-enum-known-admission
 enum-known-admission c = search needs
 
--- src/lib.rt:82:24
 enum-told : tie.Need-enum-told
 enum-told c = search needs
 
+-- what `admit` has tested
 ready : (c : tie.After-enum-told) →
     let a = c .before .before .before .before .before .before .before .args in
     Admitted (a .pages) (mediaOf (a .media .now) (a .sizes .now)) (a .file) (a .n)
 ready c = admitted _ _ _ _ (c .before .before .admit .result) (c .enum-told .given .0 .0) (c .before .before .admit .ensures) (c .enum-told .given .1)
 
--- src/lib.rt:82:24
 cast-size : tie.Need-cast-size
 cast-size c = let ok = ready c in omega arith
 
--- src/lib.rt:83:16
 mul-if1 : tie.Need-mul-if1
 mul-if1 c = let ok = ready c in omega arith
 
--- src/lib.rt:83:16
 slice-read-if1 : tie.Need-slice-read-if1
 slice-read-if1 c = let ok = ready (c .before) in omega arith
 
--- src/lib.rt:84:17
 same-length : tie.Need-same-length
 same-length c = search needs
 
--- src/lib.rt:84:17
 same-length-2 : tie.Need-same-length-2
 same-length-2 c = search needs
 
--- src/lib.rt:84:17
 returns : tie.Need-returns
-returns c = (trim-range _ _ _ _ (ready (c .before .before)) (c .if1 .taken), trim-unchanged _ _ _ _ (ready (c .before .before)) (c .if1 .taken))
+returns c =
+    let e = trim-range _ _ _ _ (ready (c .before .before)) (c .if1 .taken) in
+    (e, trim-unchanged _ _ _ _ Range e)
 
--- src/lib.rt:86:13
 clear-from-requires : tie.Need-clear-from-requires
 clear-from-requires c κs = let ok = ready (c .before .before .before) in (search needs, ok .bytes, ok .file, ok .range)
 
--- src/lib.rt:87:13
 mul-sizes : tie.Need-mul-sizes
 mul-sizes c = let ok = ready (c .before .before .before .before .before .before) in omega arith
 
--- src/lib.rt:87:13
 slice-write-sizes : tie.Need-slice-write-sizes
 slice-write-sizes c = let ok = ready (c .before .before .before .before .before .before) in omega arith
 
--- src/lib.rt:73:1
 same-length-3 : tie.Need-same-length-3
 same-length-3 c = search needs
 
--- src/lib.rt:73:1
 same-length-4 : tie.Need-same-length-4
 same-length-4 c = search needs
 
--- src/lib.rt:73:1
 returns-2 : tie.Need-returns-2
 returns-2 c =
     let b = c .before .before .before in
     let e = sym (ap coded (c .before .admission .given .1)) ∙ b .admit .ensures in
-    (trim-refused _ _ _ _ (c .before .admission .given .0 .0) e, trim-left _ _ _ _ (c .before .admission .given .0 .0) e)
+    let t = trim-refused _ _ _ _ (c .before .admission .given .0 .0) e in
+    (t, trim-unchanged _ _ _ _ (c .before .admission .given .0 .0) t)
 
--- src/lib.rt:73:1
 same-length-5 : tie.Need-same-length-5
 same-length-5 c = search needs
 
--- src/lib.rt:73:1
 same-length-6 : tie.Need-same-length-6
 same-length-6 c = search needs
 
--- src/lib.rt:73:1
 returns-3 : tie.Need-returns-3
 returns-3 c =
     let k = c .before .before .before in

@@ -1,4 +1,5 @@
-use mathlib.Core.Path.{_≡_, refl, _∙_, ap}
+-- `memory::clear` meets its contract: after i turns the first i bytes are 0.
+use mathlib.Core.Path.{_≡_, _∙_, ap}
 use mathlib.Core.List.{List, _++_, append-nil}
 use Prim.Native.Nat.{ℕ, _≤_, _-_}
 use native.Mathlib.Omega.{arith}
@@ -8,8 +9,6 @@ use borrow.Author.Fill.{fill-more}
 use Rattle.memory.specs.Bytes.{zeros}
 use Rattle.memory.proofs.clear.Statement.{statement}
 use Rattle.memory.proofs.clear.Tie as tie
-use Rattle.memory.proofs.clear.Reads as reads
-use Rattle.memory.proofs.clear.Lts as lts
 
 abbrev Inv-loop : tie.InvT-loop
 Inv-loop dst₀ i₀ dst i = (dst ≡ zeros i ++ drop i dst₀) × (i ≤ length dst₀) × (length dst ≡ length dst₀)
@@ -17,23 +16,18 @@ Inv-loop dst₀ i₀ dst i = (dst ≡ zeros i ++ drop i dst₀) × (i ≤ length
 abbrev μ-loop : tie.MeasureT-loop
 μ-loop dst₀ i₀ dst i = length dst₀ - i
 
--- src/lib.rt:24:5
 loop-holds : tie.Need-loop-holds Inv-loop μ-loop
 loop-holds c = search needs
 
--- src/lib.rt:25:9
 slice-write-dst : tie.Need-slice-write-dst Inv-loop μ-loop
 slice-write-dst c = search needs
 
--- src/lib.rt:26:9
 add-i : tie.Need-add-i Inv-loop μ-loop
 add-i c = search needs
 
--- src/lib.rt:24:5
 loop-less : tie.Need-loop-less Inv-loop μ-loop
 loop-less c = search needs
 
--- src/lib.rt:24:5
 loop-again : tie.Need-loop-again Inv-loop μ-loop
 loop-again c =
     let l = c .before in
@@ -41,11 +35,9 @@ loop-again c =
     let i = l .loop .i in
     (ap (λ (t : List ℕ). set t i 0) (l .loop .inv .0) ∙ fill-more i 0 d (omega arith), search needs, simp length-set (omega arith))
 
--- src/lib.rt:20:1
 same-length : tie.Need-same-length Inv-loop μ-loop
 same-length c = search needs
 
--- src/lib.rt:20:1
 returns : tie.Need-returns Inv-loop μ-loop
 returns c =
     let d = c .before .before .args .dst .now in

@@ -1,3 +1,4 @@
+-- `memory::copy` meets its contract: after i turns the first i bytes of `src` are laid over the front.
 use mathlib.Core.Path.{_≡_, sym, _∙_, ap}
 use mathlib.Core.List.{List}
 use Prim.Native.Nat.{ℕ, _≤_, _-_, min}
@@ -5,12 +6,9 @@ use native.Mathlib.Omega.{arith}
 use lib.ListN.{length, take, set, getD, length-set}
 use borrow.Author.Needs.{needs}
 use Rattle.memory.specs.Bytes.{overwrite}
-use Rattle.memory.proofs.Laws.{length-overwrite, overwrite-none, overwrite-next, overwrite-fits}
+use Rattle.memory.proofs.Bytes.{overwrite-none, overwrite-next, overwrite-fits}
 use Rattle.memory.proofs.copy.Statement.{statement}
 use Rattle.memory.proofs.copy.Tie as tie
-use Rattle.memory.proofs.copy.Reads as reads
-use Rattle.memory.proofs.copy.Lts as lts
-use Rattle.memory.proofs.shorter.Reads as shorter-reads
 
 abbrev Inv-loop : tie.InvT-loop
 Inv-loop dst₀ src n i₀ dst i = (dst ≡ overwrite dst₀ 0 (take i src)) × (length dst ≡ length dst₀) × (i ≤ n) × (n ≡ min (length dst₀) (length src))
@@ -18,31 +16,24 @@ Inv-loop dst₀ src n i₀ dst i = (dst ≡ overwrite dst₀ 0 (take i src)) × 
 abbrev μ-loop : tie.MeasureT-loop
 μ-loop dst₀ src n i₀ dst i = n - i
 
--- src/lib.rt:11:9
 shorter-requires : tie.Need-shorter-requires Inv-loop μ-loop
 shorter-requires c κs = search needs
 
--- src/lib.rt:13:5
 loop-holds : tie.Need-loop-holds Inv-loop μ-loop
 loop-holds c = (sym (overwrite-none _ 0), search needs, search needs, search needs)
 
--- src/lib.rt:14:18
 shared-slice-read-dst : tie.Need-shared-slice-read-dst Inv-loop μ-loop
 shared-slice-read-dst c = search needs
 
--- src/lib.rt:14:9
 slice-write-dst : tie.Need-slice-write-dst Inv-loop μ-loop
 slice-write-dst c = search needs
 
--- src/lib.rt:15:9
 add-i : tie.Need-add-i Inv-loop μ-loop
 add-i c = search needs
 
--- src/lib.rt:13:5
 loop-less : tie.Need-loop-less Inv-loop μ-loop
 loop-less c = search needs
 
--- src/lib.rt:13:5
 loop-again : tie.Need-loop-again Inv-loop μ-loop
 loop-again c =
     let l = c .before .before in
@@ -51,11 +42,9 @@ loop-again c =
     let i = l .loop .i in
     (ap (λ (t : List ℕ). set t i (getD s i 0)) (l .loop .inv .0) ∙ overwrite-next d s i (omega arith) (omega arith), simp length-set (omega arith), search needs, search needs)
 
--- src/lib.rt:8:1
 same-length : tie.Need-same-length Inv-loop μ-loop
 same-length c = search needs
 
--- src/lib.rt:8:1
 returns : tie.Need-returns Inv-loop μ-loop
 returns c =
     let a = c .before .before .before .before .before .args in

@@ -1,15 +1,14 @@
 -- Laws of answers and of the order of refusals.
 use mathlib.Core.Path.{_≡_, refl, sym, ap, _∙_}
-use mathlib.Core.Bool.{Bool, true, false, cond, not}
+use mathlib.Core.Bool.{Bool, true, false, cond, false≢true}
 use mathlib.Core.List.{List, [], _∷_, _++_}
 use Prim.Native.Nat.{ℕ, zero, suc}
-use native.Mathlib.Omega.{arith}
 use lib.Dec.{eqb}
 use lib.ListN.{getD}
 use borrow.Author.Tests.{eq-eqb}
 use Rattle.answer.specs.declared.Refusal.{Refusal}
 use Rattle.answer.specs.declared.Refusal.the-variants.{Line, Shape, Media, Books, Down, NoFile, Range, NoRoom, Cut}
-use Rattle.answer.specs.Answer.{Coded, codedRefusal, done}
+use Rattle.answer.specs.Answer.{Coded, codedRefusal}
 use Rattle.answer.specs.Admission.{Test, test, firstRefusal, ifDone}
 
 -- ---- answers
@@ -32,13 +31,14 @@ if-refused a r x y e = rw (← e, refusal-number)
 
 -- ---- tests
 
+-- the first that fails decides
+pub first-fails : (t : Test) (ts : List Test) (a : Coded) → t .holds ≡ false → firstRefusal (t ∷ ts) a ≡ t .refusal
+first-fails t ts a h = rw h
+
 -- every test of the list has the number of a refusal
 abbrev pub refusing : List Test → Bool
 refusing [] = true
 refusing (t ∷ ts) = cond (eqb (t .refusal .number) 0) false (refusing ts)
-
-false≢true : false ≡ true → ⊥
-false≢true e = let z : _≡_ {A = ℕ} 0 1 = cc in omega arith
 
 refusing-rest : (b : Bool) (x : Bool) → cond b false x ≡ true → x ≡ true
 refusing-rest true x e = absurd (false≢true e)

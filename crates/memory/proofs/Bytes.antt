@@ -5,7 +5,7 @@ use Prim.Native.Nat.{ℕ, zero, suc, _+_, _-_, _<_, _≤_, min}
 use native.Mathlib.Omega.{arith}
 use native.Mathlib.Nat.{not-suc-le-zero, le-of-suc-le-suc, zero-add, suc-add, sub-zero, suc-sub-suc}
 use native.Mathlib.Numerals.{add-one}
-use lib.ListN.{length, getD, set, take, drop, replicate, length-take, length-drop, length-replicate}
+use lib.ListN.{length, getD, set, take, drop, length-take, length-drop, length-replicate}
 use lib.Seq.{take-nil, drop-nil, drop-drop, getD-take, getD-drop}
 use borrow.Rule.Slice.PartMut.{putMid}
 use Rattle.memory.specs.Bytes.{zeros, part, overwrite}
