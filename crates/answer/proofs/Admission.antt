@@ -1,4 +1,4 @@
--- Laws of answers and of the order of refusals.
+-- Laws of the order of refusals.
 use mathlib.Core.Path.{_≡_, refl, sym, ap, _∙_}
 use mathlib.Core.Bool.{Bool, true, false, cond, false≢true}
 use mathlib.Core.List.{List, [], _∷_, _++_}
@@ -7,29 +7,13 @@ use lib.Dec.{eqb}
 use lib.ListN.{getD}
 use borrow.Author.Tests.{eq-eqb}
 use Rattle.answer.specs.declared.Refusal.{Refusal}
-use Rattle.answer.specs.declared.Refusal.the-variants.{Line, Shape, Media, Books, Down, NoFile, Range, NoRoom, Cut}
-use Rattle.answer.specs.Answer.{Coded, codedRefusal}
+use Rattle.answer.specs.Coded.{Coded, codedRefusal}
+use Rattle.answer.proofs.Coded.{refusal-number}
 use Rattle.answer.specs.Admission.{Test, test, firstRefusal, ifDone}
-
--- ---- answers
-
--- no refusal has number 0
-pub refusal-number : (r : Refusal) → eqb ((codedRefusal r) .number) 0 ≡ false
-refusal-number Line = refl
-refusal-number Shape = refl
-refusal-number Media = refl
-refusal-number Books = refl
-refusal-number Down = refl
-refusal-number NoFile = refl
-refusal-number Range = refl
-refusal-number NoRoom = refl
-refusal-number (Cut n) = refl
 
 -- a refusal leaves things as they were
 pub if-refused : {A : Type 0} (a : Coded) (r : Refusal) (x y : A) → codedRefusal r ≡ a → ifDone a x y ≡ y
 if-refused a r x y e = rw (← e, refusal-number)
-
--- ---- tests
 
 -- the first that fails decides
 pub first-fails : (t : Test) (ts : List Test) (a : Coded) → t .holds ≡ false → firstRefusal (t ∷ ts) a ≡ t .refusal

@@ -2,7 +2,7 @@
 use mathlib.Core.Bool.{Bool, cond}
 use mathlib.Core.List.{List, [], _∷_}
 use lib.Dec.{eqb}
-use Rattle.answer.specs.Answer.{Coded}
+use Rattle.answer.specs.Coded.{Coded}
 
 -- what must hold, and the answer where it does not
 pub record Test : Type 0 where

@@ -2,7 +2,7 @@
 //
 // `coded` in specs/ gives each case its number and its count; every contract of the store speaks of answers through it.
 ghost use mathlib.Core.Path.{_≡_};
-ghost use Rattle.answer.specs.Answer.{coded, codedRefusal};
+ghost use Rattle.answer.specs.Coded.{coded, codedRefusal};
 
 // The nine refusals, in the order in which they are tested.
 pub enum Refusal {

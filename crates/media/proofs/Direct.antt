@@ -9,7 +9,7 @@ use borrow.Author.Tests.{eqb-true, ltb-true, leb-true, eq-eqb, ne-eqb, lt-ltb, l
 use Rattle.answer.specs.declared.Refusal.{Refusal}
 use Rattle.answer.specs.declared.Answer.{Answer}
 use Rattle.answer.specs.declared.Answer.the-variants.{Done}
-use Rattle.answer.specs.Answer.{Coded, coded, codedRefusal, done, SHAPE, NO-FILE, RANGE}
+use Rattle.answer.specs.Coded.{Coded, coded, codedRefusal, done, SHAPE, NO-FILE, RANGE}
 use Rattle.answer.specs.Admission.{firstRefusal}
 use Rattle.answer.proofs.Admission.{holds-at, if-refused, first-passed, first-refused}
 use Rattle.memory.specs.Bytes.{part, overwrite}

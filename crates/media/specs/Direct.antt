@@ -3,7 +3,7 @@ use Prim.Native.Nat.{ℕ}
 use mathlib.Core.List.{List, [], _∷_, _++_}
 use lib.Dec.{ltb, leb, eqb}
 use lib.ListN.{length}
-use Rattle.answer.specs.Answer.{Coded, done, SHAPE, NO-FILE, RANGE}
+use Rattle.answer.specs.Coded.{Coded, done, SHAPE, NO-FILE, RANGE}
 use Rattle.answer.specs.Admission.{Test, test, firstRefusal, ifDone}
 use Rattle.media.specs.Geometry.{files, pageBytes, fileBytes, mediaBytes}
 use Rattle.media.specs.Write.{Media, sizeAt, apply}

@@ -7,7 +7,7 @@ use answer::Refusal;
 ghost use mathlib.Core.Path.{_≡_};
 ghost use Prim.Native.Nat.{_+_, _-_, _≤_, _<_};
 ghost use lib.ListN.{length};
-ghost use Rattle.answer.specs.Answer.{coded};
+ghost use Rattle.answer.specs.Coded.{coded};
 ghost use Rattle.memory.specs.Bytes.{zeros, overwrite};
 ghost use Rattle.media.specs.Geometry.{files, pagesPerFile, fileBytes, mediaBytes, fileStart};
 ghost use Rattle.media.specs.Write.{mediaOf};

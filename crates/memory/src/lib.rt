@@ -1,4 +1,4 @@
-// Block moves on byte slices: the loops that the back end turns into memcpy and memset.
+// Block moves on byte slices of any lengths.
 ghost use mathlib.Core.Path.{_≡_};
 ghost use Prim.Native.Nat.{min};
 ghost use lib.ListN.{length};

@@ -4,7 +4,7 @@ use mathlib.Core.List.{List}
 use Prim.Native.Nat.{ℕ}
 use native.Mathlib.Omega.{arith}
 use lib.ListN.{set}
-use Rattle.answer.specs.Answer.{coded}
+use Rattle.answer.specs.Coded.{coded}
 use Rattle.media.specs.Write.{mediaOf}
 use Rattle.media.proofs.Direct.{Admitted, admitted, trim-range, trim-done, trim-after, trim-refused, trim-unchanged}
 use Rattle.answer.specs.declared.Refusal.the-variants.{Range}

@@ -1,7 +1,7 @@
 -- `media::write_size_in` meets its contract: what `admit` answers decides.
 use mathlib.Core.Path.{sym, _∙_, ap}
 use native.Mathlib.Omega.{arith}
-use Rattle.answer.specs.Answer.{coded}
+use Rattle.answer.specs.Coded.{coded}
 use Rattle.media.specs.Write.{mediaOf}
 use Rattle.media.proofs.Direct.{Admitted, admitted, size-accepted, size-after, size-unchanged}
 use borrow.Author.Needs.{needs}
