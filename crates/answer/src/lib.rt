@@ -27,6 +27,7 @@ pub enum Refusal {
 }
 
 pub enum Answer {
+    // Done, with a count.
     Done(usize),
     Refused(Refusal),
 }

@@ -38,6 +38,9 @@ module _ (P : ℕ) where
       (λ e. rw (e, eq-eqb f f refl) (getD-set-same sizes f n 0 (rw e at h)))
       (λ ne. rw (ne-eqb g f ne) (getD-set-other sizes f g n 0 ne))
 
+  pub size-of-page : (m : Media) (f p : ℕ) (bytes : List ℕ) (g : ℕ) → sizeAt (apply P m (page f p bytes)) g ≡ sizeAt m g
+  size-of-page m f p bytes g = refl
+
   module _ (m : Media) (f n g : ℕ) (h : g < length (m .sizes)) where
     pub size-of-size : sizeAt (apply P m (size f n)) g ≡ cond (eqb g f) n (sizeAt m g)
     size-of-size = size-set (m .sizes) f n g h
@@ -84,6 +87,9 @@ module _ (P : ℕ) where
         (λ d. rw (ne-eqb _ _ d)
         (split-lt k a (overwrite-before (m .bytes) a bytes k) (λ h. overwrite-after (m .bytes) a bytes k (omega arith))))))
         (λ ne. rw (ne-eqb g f ne) (apart f (pageBytes * p) bytes ne (omega (arith, page-end P p hp))))
+
+    pub byte-of-size : (f n : ℕ) → byteAt P (apply P m (size f n)) g i ≡ byteAt P m g i
+    byte-of-size f n = refl
 
     -- other files are untouched
     pub byte-of-other : (w : MediaWrite) → InLimits P w → g ≢ fileOf w → byteAt P (apply P m w) g i ≡ byteAt P m g i

@@ -5,7 +5,7 @@ use Prim.Native.Nat.{ℕ, _+_, _*_}
 abbrev pub files : ℕ
 files = 8
 
--- a file of this media has 16 pages: the one place that says so
+-- the number of pages in a file of this media
 abbrev pub pagesPerFile : ℕ
 pagesPerFile = 16
 

@@ -5,7 +5,7 @@
 use answer::Answer;
 use answer::Refusal;
 ghost use mathlib.Core.Path.{_≡_};
-ghost use Prim.Native.Nat.{_+_, _-_, _≤_, _<_};
+ghost use Prim.Native.Nat.{_+_, _-_, _^_, _≤_, _<_};
 ghost use lib.ListN.{length};
 ghost use Rattle.answer.specs.Coded.{coded};
 ghost use Rattle.memory.specs.Bytes.{zeros, overwrite};
@@ -13,6 +13,7 @@ ghost use Rattle.media.specs.Geometry.{files, pagesPerFile, fileBytes, m
 ghost use Rattle.media.specs.Write.{mediaOf};
 ghost use Rattle.media.specs.Direct.{pageAnswer, pageAfter, sizeAnswer, sizeAfter, trimAnswer, trimAfter};
 
+// What a caller lends: MEDIA_BYTES bytes and FILES sizes. Byte i of file f is at f * FILE_BYTES + i.
 pub const FILES: usize = 8;
 
 pub const PAGES_PER_FILE: usize = 16;
@@ -54,9 +55,9 @@ pub fn trim(media: &mut [u8], sizes: &mut [u32], file: usize, n: usize) -> Answe
     trim_in(media, sizes, file, n, PAGES_PER_FILE)
 }
 
-// The two writes over the number of pages in a file.
+// SIZE and TRIM over the number of pages in a file. The greatest file size fits a stored size.
 fn write_size_in(media: &[u8], sizes: &mut [u32], file: usize, n: usize, pages: usize) -> Answer
-    requires { ⌜ pages ≤ 65536 ⌝ }
+    requires { ⌜ fileBytes pages < 2 ^ 32 ⌝ }
     ensures { λ r. ⌜ (coded r ≡ sizeAnswer pages (mediaOf (now (media .entry)) (now (sizes .entry))) file n)
         × (mediaOf (now (media .entry)) (now (sizes .exit)) ≡ sizeAfter pages (mediaOf (now (media .entry)) (now (sizes .entry))) file n) ⌝ }
 {
@@ -71,7 +72,7 @@ fn write_size_in(media: &[u8], sizes: &mut [u32], file: usize, n: usize, pages: 
 }
 
 fn trim_in(media: &mut [u8], sizes: &mut [u32], file: usize, n: usize, pages: usize) -> Answer
-    requires { ⌜ pages ≤ 65536 ⌝ }
+    requires { ⌜ fileBytes pages < 2 ^ 32 ⌝ }
     ensures { λ r. ⌜ (coded r ≡ trimAnswer pages (mediaOf (now (media .entry)) (now (sizes .entry))) file n)
         × (mediaOf (now (media .exit)) (now (sizes .exit)) ≡ trimAfter pages (mediaOf (now (media .entry)) (now (sizes .entry))) file n) ⌝ }
 {
@@ -92,7 +93,7 @@ fn trim_in(media: &mut [u8], sizes: &mut [u32], file: usize, n: usize, pages: us
 
 // The bytes of one file from n on become 0.
 fn clear_from(media: &mut [u8], file: usize, n: usize, pages: usize)
-    requires { ⌜ (pages ≤ 65536) × (length (now media) ≡ mediaBytes pages) × (file < files) × (n ≤ fileBytes pages) ⌝ }
+    requires { ⌜ (fileBytes pages < 2 ^ 32) × (length (now media) ≡ mediaBytes pages) × (file < files) × (n ≤ fileBytes pages) ⌝ }
     ensures { λ r. ⌜ now (media .exit) ≡ overwrite (now (media .entry)) (fileStart pages file + n) (zeros (fileBytes pages - n)) ⌝ }
 {
     let file_len = PAGE_BYTES * pages;
@@ -103,7 +104,7 @@ fn clear_from(media: &mut [u8], file: usize, n: usize, pages: usize)
 
 // The refusals of SIZE, which TRIM shares, in their order.
 fn admit(media: &[u8], sizes: &[u32], file: usize, n: usize, pages: usize) -> Answer
-    requires { ⌜ pages ≤ 65536 ⌝ }
+    requires { ⌜ fileBytes pages < 2 ^ 32 ⌝ }
     ensures { λ r. ⌜ coded r ≡ sizeAnswer pages (mediaOf (now (media .entry)) (now (sizes .entry))) file n ⌝ }
 {
     let file_len = PAGE_BYTES * pages;
