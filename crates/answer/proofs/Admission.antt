@@ -6,6 +6,7 @@ use Prim.Native.Nat.{ℕ, zero, suc}
 use lib.Dec.{eqb}
 use lib.ListN.{getD}
 use borrow.Author.Tests.{eq-eqb}
+use borrow.Table.Steps.{cases}
 use Rattle.answer.specs.declared.Refusal.{Refusal}
 use Rattle.answer.specs.Coded.{Coded, codedRefusal}
 use Rattle.answer.proofs.Coded.{refusal-number}
@@ -28,13 +29,9 @@ refusing-rest : (b : Bool) (x : Bool) → cond b false x ≡ true → x ≡ true
 refusing-rest true x e = absurd (false≢true e)
 refusing-rest false x e = e
 
--- the first test held, and the others decide
+-- where the answer is done, the first test held
 refusing-head : (t : Test) (ts : List Test) (a : Coded) → refusing (t ∷ ts) ≡ true → (firstRefusal (t ∷ ts) a) .number ≡ 0 → t .holds ≡ true
-refusing-head t ts a h e = go (t .holds) refl
-  where
-    go : (v : Bool) → t .holds ≡ v → t .holds ≡ true
-    go true q = q
-    go false q = absurd (false≢true (rw (eq-eqb _ _ (rw q at e)) at h))
+refusing-head t ts a h e = cases (t .holds) (λ q. q) (λ q. absurd (false≢true (rw (eq-eqb _ _ (rw q at e)) at h)))
 
 -- where the answer is done, every test held
 pub holds-at : (ts : List Test) (a : Coded) → refusing ts ≡ true → (firstRefusal ts a) .number ≡ 0 → (k : ℕ) → (getD ts k (test true a)) .holds ≡ true
@@ -43,7 +40,7 @@ holds-at (t ∷ ts) a h e zero = refusing-head t ts a h e
 holds-at (t ∷ ts) a h e (suc k) =
     holds-at ts a (refusing-rest (eqb (t .refusal .number) 0) (refusing ts) h) (rw (refusing-head t ts a h e) at e) k
 
--- and tests that follow decide
+-- and the tests after them decide
 pub first-passed : (ts us : List Test) (a b : Coded) → refusing ts ≡ true → (firstRefusal ts a) .number ≡ 0 → firstRefusal (ts ++ us) b ≡ firstRefusal us b
 first-passed [] us a b h e = refl
 first-passed (t ∷ ts) us a b h e =
@@ -53,8 +50,5 @@ first-passed (t ∷ ts) us a b h e =
 -- a refusal by the first tests stands, whatever follows
 pub first-refused : (ts us : List Test) (a b : Coded) (r : Refusal) → a .number ≡ 0 → codedRefusal r ≡ firstRefusal ts a → codedRefusal r ≡ firstRefusal (ts ++ us) b
 first-refused [] us a b r h e = absurd (false≢true (sym (refusal-number r) ∙ eq-eqb _ _ (ap (λ (k : Coded). k .number) e ∙ h)))
-first-refused (t ∷ ts) us a b r h e = go (t .holds) refl (first-refused ts us a b r h)
-  where
-    go : (v : Bool) → t .holds ≡ v → (codedRefusal r ≡ firstRefusal ts a → codedRefusal r ≡ firstRefusal (ts ++ us) b) → codedRefusal r ≡ firstRefusal ((t ∷ ts) ++ us) b
-    go true q rest = rw q (rest (rw q at e))
-    go false q rest = rw q (rw q at e)
+first-refused (t ∷ ts) us a b r h e =
+    cases (t .holds) (λ q. rw q (first-refused ts us a b r h (rw q at e))) (λ q. rw q (rw q at e))

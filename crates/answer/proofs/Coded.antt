@@ -53,3 +53,7 @@ decoded-coded (Refused r) = decoded-refusal r
 -- two answers with one number and count are one answer: a contract that gives `coded r` gives r
 pub coded-injective : (a b : Answer) → coded a ≡ coded b → a ≡ b
 coded-injective a b e = sym (decoded-coded a) ∙ ap decoded e ∙ decoded-coded b
+
+-- what a contract says of an answer, said of the case that it is
+pub coded-of : (r s : Answer) (a : Coded) → r ≡ s → coded r ≡ a → coded s ≡ a
+coded-of r s a q e = sym (ap coded q) ∙ e

@@ -18,9 +18,9 @@ pub enum Refusal {
     Down,
     // The file number is above the last file.
     NoFile,
-    // A position, a length or a size is past the greatest file size.
+    // A position, a size, or a position with the length after it is above the greatest file size.
     Range,
-    // No page frame is free for the first page of a write.
+    // The first page of a write is not cached, and no page frame is free for it.
     NoRoom,
     // The budget paid for this many media writes, and more were needed.
     Cut(usize),

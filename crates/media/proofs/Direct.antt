@@ -1,5 +1,5 @@
 -- Laws of the media asked directly: what each answer says, and what it leaves.
-use mathlib.Core.Path.{_≡_, refl, sym, ap, _∙_}
+use mathlib.Core.Path.{_≡_, refl, sym, ap}
 use mathlib.Core.Logic.{_≢_}
 use mathlib.Core.List.{List, [], _∷_}
 use Prim.Native.Nat.{ℕ, _<_, _≤_}
@@ -11,6 +11,7 @@ use Rattle.answer.specs.declared.Answer.{Answer}
 use Rattle.answer.specs.declared.Answer.the-variants.{Done}
 use Rattle.answer.specs.Coded.{Coded, coded, codedRefusal, done, SHAPE, NO-FILE, RANGE}
 use Rattle.answer.specs.Admission.{firstRefusal}
+use Rattle.answer.proofs.Coded.{coded-of}
 use Rattle.answer.proofs.Admission.{holds-at, if-refused, first-passed, first-refused}
 use Rattle.memory.specs.Bytes.{part, overwrite}
 use Rattle.memory.proofs.Bytes.{length-part}
@@ -84,7 +85,7 @@ pub record Admitted (P : ℕ) (m : Media) (f n : ℕ) : Type 0 where
 pub admitted : (P : ℕ) (m : Media) (f n : ℕ) (r : Answer) (k : ℕ) → coded r ≡ sizeAnswer P m f n → r ≡ Done k → Admitted P m f n
 unfolding sizeTests sizeAnswer
 admitted P m f n r k e d =
-    let z : (sizeAnswer P m f n) .number ≡ 0 = ap (λ (a : Coded). a .number) (sym e ∙ ap coded d) in
+    let z : (sizeAnswer P m f n) .number ≡ 0 = ap (λ (a : Coded). a .number) (sym (coded-of r (Done k) (sizeAnswer P m f n) d e)) in
     record {
       bytes = eqb-true _ _ (holds-at (sizeTests P m f n) (done 0) refl z 0);
       sizes = eqb-true _ _ (holds-at (sizeTests P m f n) (done 0) refl z 1);
@@ -93,14 +94,14 @@ admitted P m f n r k e d =
     }
 
 module _ (P : ℕ) (m : Media) (f n : ℕ) where
-  -- what SIZE admits is done, unless TRIM finds n above the stored size
+  -- SIZE is done on what it admits; TRIM too, unless n is above the stored size
   module _ (ok : Admitted P m f n) where
     pub size-accepted : done 0 ≡ sizeAnswer P m f n
     size-accepted = size-done P m f n (ok .bytes) (ok .sizes) (ok .file) (ok .range)
 
-    pub size-after : apply P m (size f n) ≡ sizeAfter P m f n
+    pub size-applied : apply P m (size f n) ≡ sizeAfter P m f n
     unfolding sizeAfter
-    size-after = rw (← size-accepted)
+    size-applied = rw (← size-accepted)
 
     trim-rest : trimAnswer P m f n ≡ firstRefusal (storedTest m f n ∷ []) (done 0)
     unfolding sizeTests sizeAnswer trimAnswer
@@ -112,9 +113,9 @@ module _ (P : ℕ) (m : Media) (f n : ℕ) where
     pub trim-done : n ≤ sizeAt m f → done 0 ≡ trimAnswer P m f n
     trim-done h = rw (trim-rest, le-leb _ _ h)
 
-    pub trim-after : n ≤ sizeAt m f → apply P m (trim f n) ≡ trimAfter P m f n
+    pub trim-applied : n ≤ sizeAt m f → apply P m (trim f n) ≡ trimAfter P m f n
     unfolding trimAfter
-    trim-after h = rw (← trim-done h)
+    trim-applied h = rw (← trim-done h)
 
   -- what SIZE refuses, TRIM refuses
   pub trim-refused : (r : Refusal) → codedRefusal r ≡ sizeAnswer P m f n → codedRefusal r ≡ trimAnswer P m f n

@@ -1,7 +1,7 @@
 -- The layout of the media. P is the number of pages in a file.
 use Prim.Native.Nat.{ℕ, _+_, _*_}
 
--- files are numbered from 0
+-- the number of files
 abbrev pub files : ℕ
 files = 8
 

@@ -1,4 +1,4 @@
--- The media, and its three writes as data: document 01, "The media". Each is done whole or not at all.
+-- The media and its three writes, as data: document 01, "The media".
 use Prim.Native.Nat.{ℕ, _+_, _-_, _≤_, _<_}
 use mathlib.Core.Path.{_≡_}
 use mathlib.Core.List.{List, [], _∷_}
@@ -30,7 +30,7 @@ pub data MediaWrite : Type 0 where
   -- TRIM: the bytes of file f from n on become 0, and its stored size becomes n
   trim : (f n : ℕ) → MediaWrite
 
--- the media after a write
+-- the media after a write, which is done whole
 abbrev pub apply : ℕ → Media → MediaWrite → Media
 apply P m (page f p bytes) = mediaOf (overwrite (m .bytes) (pageStart P f p) bytes) (m .sizes)
 apply P m (size f n) = mediaOf (m .bytes) (set (m .sizes) f n)
@@ -48,10 +48,10 @@ fileOf (page f p bytes) = f
 fileOf (size f n) = f
 fileOf (trim f n) = f
 
--- every write of a list is so
-abbrev pub Each : (MediaWrite → Type 0) → List MediaWrite → Type 0
-Each Q [] = Unit {0}
-Each Q (w ∷ ws) = Q w × Each Q ws
+-- Q holds of every write of a list
+abbrev pub All : (MediaWrite → Type 0) → List MediaWrite → Type 0
+All Q [] = Unit {0}
+All Q (w ∷ ws) = Q w × All Q ws
 
 -- the media after a list of writes, in their order
 abbrev pub applyAll : ℕ → Media → List MediaWrite → Media

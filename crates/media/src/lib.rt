@@ -1,7 +1,7 @@
 // The media part: the bytes of eight files and their stored sizes, both borrowed.
 //
-// It knows three writes, PAGE, SIZE and TRIM, each done whole or not at all, and nothing of cached pages. A write that is
-// done counts 0. A refusal changes nothing.
+// It knows three writes, PAGE, SIZE and TRIM, and nothing of cached pages. A write that is done counts 0. A refusal changes
+// nothing.
 use answer::Answer;
 use answer::Refusal;
 ghost use mathlib.Core.Path.{_≡_};
@@ -13,7 +13,7 @@ ghost use Rattle.media.specs.Geometry.{files, pagesPerFile, fileBytes, m
 ghost use Rattle.media.specs.Write.{mediaOf};
 ghost use Rattle.media.specs.Direct.{pageAnswer, pageAfter, sizeAnswer, sizeAfter, trimAnswer, trimAfter};
 
-// What a caller lends: MEDIA_BYTES bytes and FILES sizes. Byte i of file f is at f * FILE_BYTES + i.
+// The media is MEDIA_BYTES bytes and FILES sizes. Byte i of file f is at f * FILE_BYTES + i.
 pub const FILES: usize = 8;
 
 pub const PAGES_PER_FILE: usize = 16;
@@ -24,7 +24,7 @@ pub const FILE_BYTES: usize = PAGE_BYTES * PAGES_PER_FILE;
 
 pub const MEDIA_BYTES: usize = FILES * FILE_BYTES;
 
-// PAGE: the bytes of one page are replaced. The caller lends the one page of the media that may be written.
+// PAGE: the bytes of one page are replaced. It borrows the one page of the media that it may write.
 pub fn write_page(page: &mut [u8], bytes: &[u8]) -> Answer
     ensures { λ r. ⌜ (coded r ≡ pageAnswer (now (page .entry)) (now (bytes .entry)))
         × (now (page .exit) ≡ pageAfter (now (page .entry)) (now (bytes .entry))) ⌝ }
@@ -39,7 +39,7 @@ pub fn write_page(page: &mut [u8], bytes: &[u8]) -> Answer
     Answer::Done(0)
 }
 
-// SIZE: the stored size of one file becomes n. The media's bytes are not read: their length tells the greatest file size.
+// SIZE: the stored size of one file becomes n. Of the media's bytes only the length is used.
 pub fn write_size(media: &[u8], sizes: &mut [u32], file: usize, n: usize) -> Answer
     ensures { λ r. ⌜ (coded r ≡ sizeAnswer pagesPerFile (mediaOf (now (media .entry)) (now (sizes .entry))) file n)
         × (mediaOf (now (media .entry)) (now (sizes .exit)) ≡ sizeAfter pagesPerFile (mediaOf (now (media .entry)) (now (sizes .entry))) file n) ⌝ }

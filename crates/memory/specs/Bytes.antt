@@ -6,7 +6,7 @@ use lib.ListN.{take, drop, replicate}
 abbrev pub zeros : ℕ → List ℕ
 zeros n = replicate n 0
 
--- the n elements of xs from index a on
+-- the elements of xs from index a on, n of them where there are as many
 abbrev pub part : List ℕ → ℕ → ℕ → List ℕ
 part xs a n = take n (drop a xs)
 

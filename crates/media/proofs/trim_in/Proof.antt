@@ -1,12 +1,13 @@
 -- `media::trim_in` meets its contract: what `admit` answers decides, then the stored size.
-use mathlib.Core.Path.{sym, _∙_, ap}
+use mathlib.Core.Path.{_∙_, ap}
 use mathlib.Core.List.{List}
 use Prim.Native.Nat.{ℕ}
 use native.Mathlib.Omega.{arith}
 use lib.ListN.{set}
-use Rattle.answer.specs.Coded.{coded}
+use Rattle.answer.specs.declared.Answer.the-variants.{Refused}
+use Rattle.answer.proofs.Coded.{coded-of}
 use Rattle.media.specs.Write.{mediaOf}
-use Rattle.media.proofs.Direct.{Admitted, admitted, trim-range, trim-done, trim-after, trim-refused, trim-unchanged}
+use Rattle.media.proofs.Direct.{Admitted, admitted, trim-range, trim-done, trim-applied, trim-refused, trim-unchanged}
 use Rattle.answer.specs.declared.Refusal.the-variants.{Range}
 use borrow.Author.Needs.{needs}
 use Rattle.media.proofs.trim_in.Statement.{statement}
@@ -65,9 +66,9 @@ same-length-4 c = search needs
 returns-2 : tie.Need-returns-2
 returns-2 c =
     let b = c .before .before .before in
-    let e = sym (ap coded (c .before .admission .given .1)) ∙ b .admit .ensures in
-    let t = trim-refused _ _ _ _ (c .before .admission .given .0 .0) e in
-    (t, trim-unchanged _ _ _ _ (c .before .admission .given .0 .0) t)
+    let r = c .before .admission .given .0 .0 in
+    let e = trim-refused _ _ _ _ r (coded-of (b .admit .result) (Refused r) _ (c .before .admission .given .1) (b .admit .ensures)) in
+    (e, trim-unchanged _ _ _ _ r e)
 
 same-length-5 : tie.Need-same-length-5
 same-length-5 c = search needs
@@ -81,7 +82,7 @@ returns-3 c =
     let s = k .before .before .before in
     let a = s .before .before .before .before .before .before .before .args in
     let h = k .before .if1 .left in
-    (trim-done _ _ _ _ (ready s) h, ap (λ (bytes : List ℕ). mediaOf bytes (set (a .sizes .now) (a .file) (a .n))) (c .before .before .clear-from .ensures) ∙ trim-after _ _ _ _ (ready s) h)
+    (trim-done _ _ _ _ (ready s) h, ap (λ (bytes : List ℕ). mediaOf bytes (set (a .sizes .now) (a .file) (a .n))) (c .before .before .clear-from .ensures) ∙ trim-applied _ _ _ _ (ready s) h)
 
 pub trim-in-spec : {M : Type 1} → statement M
 trim-in-spec =

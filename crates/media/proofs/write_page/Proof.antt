@@ -4,6 +4,7 @@ use native.Mathlib.Omega.{arith}
 use lib.ListN.{length}
 use Rattle.memory.proofs.Bytes.{overwrite-whole}
 use borrow.Author.Needs.{needs}
+use Rattle.media.specs.Geometry.{pageBytes}
 use Rattle.media.proofs.Direct.{page-shape, bytes-shape, page-done}
 use Rattle.media.proofs.write_page.Statement.{statement}
 use Rattle.media.proofs.write_page.Tie as tie
@@ -23,8 +24,8 @@ same-length c = search needs
 returns-3 : tie.Need-returns-3
 returns-3 c =
     let a = c .before .before .before .before .before .before .before .before .args in
-    let h : length (a .page .now) ≡ 256 = omega arith in
-    let k : length (a .bytes .now) ≡ 256 = omega arith in
+    let h : length (a .page .now) ≡ pageBytes = omega arith in
+    let k : length (a .bytes .now) ≡ pageBytes = omega arith in
     let d = page-done (a .page .now) (a .bytes .now) h k in
     (d .0, c .before .before .copy .ensures ∙ overwrite-whole (a .page .now) (a .bytes .now) (k ∙ sym h) ∙ d .1)
 

@@ -1,9 +1,9 @@
 -- `media::write_size_in` meets its contract: what `admit` answers decides.
-use mathlib.Core.Path.{sym, _∙_, ap}
 use native.Mathlib.Omega.{arith}
-use Rattle.answer.specs.Coded.{coded}
+use Rattle.answer.specs.declared.Answer.the-variants.{Refused}
+use Rattle.answer.proofs.Coded.{coded-of}
 use Rattle.media.specs.Write.{mediaOf}
-use Rattle.media.proofs.Direct.{Admitted, admitted, size-accepted, size-after, size-unchanged}
+use Rattle.media.proofs.Direct.{Admitted, admitted, size-accepted, size-applied, size-unchanged}
 use borrow.Author.Needs.{needs}
 use Rattle.media.proofs.write_size_in.Statement.{statement}
 use Rattle.media.proofs.write_size_in.Tie as tie
@@ -38,14 +38,15 @@ same-length c = search needs
 returns : tie.Need-returns
 returns c =
     let b = c .before .before .before in
-    let e = sym (ap coded (c .before .admission .given .1)) ∙ b .admit .ensures in
-    (e, size-unchanged _ _ _ _ (c .before .admission .given .0 .0) e)
+    let r = c .before .admission .given .0 .0 in
+    let e = coded-of (b .admit .result) (Refused r) _ (c .before .admission .given .1) (b .admit .ensures) in
+    (e, size-unchanged _ _ _ _ r e)
 
 same-length-2 : tie.Need-same-length-2
 same-length-2 c = search needs
 
 returns-2 : tie.Need-returns-2
-returns-2 c = (size-accepted _ _ _ _ (ready c), size-after _ _ _ _ (ready c))
+returns-2 c = (size-accepted _ _ _ _ (ready c), size-applied _ _ _ _ (ready c))
 
 pub write-size-in-spec : {M : Type 1} → statement M
 write-size-in-spec =
