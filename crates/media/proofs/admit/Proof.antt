@@ -12,10 +12,10 @@ mul-if1 : tie.Need-mul-if1
 mul-if1 c = search needs
 
 returns : tie.Need-returns
-returns c = size-shape _ _ _ _ (c .if1 .taken)
+returns c = size-shape _ _ _ _ (omega arith)
 
 returns-2 : tie.Need-returns-2
-returns-2 c = sizes-shape _ _ _ _ (omega arith) (c .if2 .taken)
+returns-2 c = sizes-shape _ _ _ _ (omega arith) (omega arith)
 
 returns-3 : tie.Need-returns-3
 returns-3 c = size-no-file _ _ _ _ (omega arith) (omega arith) (omega arith)
