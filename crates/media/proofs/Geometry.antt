@@ -5,7 +5,7 @@ use native.Mathlib.Omega.{arith}
 use native.Mathlib.Nat.{suc-mul, mul-le-mul-right}
 use Rattle.media.specs.Geometry.{files, pagesPerFile, pageBytes, fileBytes, mediaBytes, fileStart}
 
--- a file ends where the next one starts, at or before the start of any later one
+-- a file ends at or before the start of any later one, and within the media
 pub file-before : (P f g : ℕ) → f < g → fileStart P f + fileBytes P ≤ fileStart P g
 unfolding fileStart
 file-before P f g h = omega (arith, suc-mul f (fileBytes P), mul-le-mul-right (fileBytes P) h)

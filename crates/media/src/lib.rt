@@ -13,16 +13,12 @@ ghost use Rattle.media.specs.Geometry.{files, pagesPerFile, fileBytes, m
 ghost use Rattle.media.specs.Write.{mediaOf};
 ghost use Rattle.media.specs.Direct.{pageAnswer, pageAfter, sizeAnswer, sizeAfter, trimAnswer, trimAfter};
 
-// The media is MEDIA_BYTES bytes and FILES sizes. Byte i of file f is at f * FILE_BYTES + i.
+// The media is FILES * PAGES_PER_FILE * PAGE_BYTES bytes, one file after the other, and FILES sizes.
 pub const FILES: usize = 8;
 
 pub const PAGES_PER_FILE: usize = 16;
 
 pub const PAGE_BYTES: usize = 256;
-
-pub const FILE_BYTES: usize = PAGE_BYTES * PAGES_PER_FILE;
-
-pub const MEDIA_BYTES: usize = FILES * FILE_BYTES;
 
 // PAGE: the bytes of one page are replaced. It borrows the one page of the media that it may write.
 pub fn write_page(page: &mut [u8], bytes: &[u8]) -> Answer
