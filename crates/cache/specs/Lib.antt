@@ -1,0 +1,12 @@
+pub mod Scan
+pub mod Device
+pub mod Sizes
+pub mod Sound
+pub mod Current
+pub mod Admission
+pub mod Reading
+pub mod Writing
+pub mod Truncating
+pub mod Syncing
+pub mod Mounting
+pub mod Looking

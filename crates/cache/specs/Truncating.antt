@@ -1,0 +1,41 @@
+-- Truncate: document 01, "The calls".
+use Prim.Native.Nat.{ℕ, _+_, _-_, _*_, _/_, _%_}
+use mathlib.Core.Bool.{cond, _&&_}
+use mathlib.Core.List.{List, map}
+use lib.Dec.{eqb, leb}
+use Rattle.answer.specs.Coded.{done}
+use Rattle.memory.specs.Bytes.{zeros, overwrite}
+use Rattle.media.specs.Geometry.{pageBytes, fileBytes}
+use Rattle.cache.specs.declared.Slot.{Slot}
+use Rattle.cache.specs.declared.CacheState.{CacheState}
+use Rattle.cache.specs.declared.FileSizes.{FileSizes}
+use Rattle.cache.specs.Device.{Device, deviceOf, frameStart, freeSlot, slotOf, isCached, withSlots, withLogical, withFloor}
+use Rattle.cache.specs.Sizes.{truncatedSizes}
+use Rattle.cache.specs.Sound.{sizesOf}
+use Rattle.cache.specs.Admission.{Result, give, admit, fileTests}
+
+-- a slot, freed where its page is of file f and begins at or past n
+unfoldable pub freeFrom : ℕ → ℕ → Slot → Slot
+freeFrom f n s = cond (s .used && (eqb (s .file) f && leb n (pageBytes * s .page))) freeSlot s
+
+-- the cached page that n falls inside gets zeros from n on
+unfoldable pub clearTail : ℕ → ℕ → Device → Device
+clearTail f n d =
+    deviceOf (d .media)
+    (cond (isCached d f (n / pageBytes))
+    (overwrite (d .frames) (frameStart (slotOf d f (n / pageBytes)) + n % pageBytes) (zeros (pageBytes - n % pageBytes)))
+    (d .frames))
+    (d .cache)
+
+-- the sizes of file f become the given ones
+unfoldable pub withSizes : ℕ → FileSizes → CacheState → CacheState
+withSizes f z s = withFloor (withLogical s f (z .logical)) f (z .floor)
+
+unfoldable pub truncated : ℕ → ℕ → Device → Device
+truncated f n d =
+    clearTail f n
+    (deviceOf (d .media) (d .frames)
+    (withSizes f (truncatedSizes n (sizesOf d f)) (withSlots (d .cache) (map (freeFrom f n) (d .cache .slots)))))
+
+unfoldable pub truncate : ℕ → ℕ → ℕ → Device → Result Device
+truncate P f n d = admit (fileTests P d f (leb n (fileBytes P))) d (give (done 0) (truncated f n d))

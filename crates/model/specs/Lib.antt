@@ -1,0 +1,5 @@
+pub mod ModelFile
+pub mod Run
+pub mod Claims
+pub mod Store
+pub mod Edges

@@ -1,0 +1,87 @@
+-- Calls, what the claims see of a device, and a run: a list of calls and power losses, each from what the one before left.
+use Prim.Native.Nat.{ℕ}
+use mathlib.Core.Bool.{Bool, cond}
+use mathlib.Core.List.{List, [], _∷_}
+use lib.Dec.{eqb}
+use lib.ListN.{take}
+use Rattle.answer.specs.Coded.{Coded}
+use Rattle.answer.specs.Admission.{Test, ifDone}
+use Rattle.model.specs.ModelFile.{ModelFile, fresh, afterWrite, afterTruncate, afterSync}
+
+pub data Call : Type 0 where
+  read : (file position : ℕ) (buffer : List ℕ) → Call
+  look : (file position : ℕ) → Call
+  write : (file position : ℕ) (bytes : List ℕ) → Call
+  truncate : (file n : ℕ) → Call
+  sync : (file budget : ℕ) → Call
+  mount : (budget : ℕ) → Call
+
+-- what a call gives: its answer, the buffer that a read leaves or the bytes that a look hands back, and the device
+pub record Reply (S : Type 0) : Type 0 where
+  pub answer : Coded
+  pub output : List ℕ
+  pub device : S
+
+-- what the claims see of a device
+pub record Interface : Type 1 where
+  -- all that goes from call to call
+  pub State : Type 0
+  pub does : Call → State → Reply State
+  -- what a lost power may leave, whatever it leaves of the bytes that are not kept
+  pub Loss : Type 0
+  pub lose : Loss → State → State
+  -- the bytes of each file on the media: as many as its stored size
+  pub onMedia : State → ℕ → List ℕ
+  -- mounted, and what is borrowed beside the cache state has its length
+  pub isReady : State → Bool
+  -- the greatest file size
+  pub greatest : State → ℕ
+  -- the refusals that remain where all else is in order: NO ROOM and CUT, with what each asks
+  pub limits : Call → State → List Test
+
+-- ---- the model files beside it
+
+abbrev pub Files : Type 0
+Files = ℕ → ModelFile
+
+-- file f is changed, the others stay
+abbrev pub change : ℕ → (ModelFile → ModelFile) → Files → Files
+change f h files g = cond (eqb g f) (h (files g)) (files g)
+
+-- a call that is done, with its count; found is what is on the media after it
+abbrev pub told : Call → ℕ → (ℕ → List ℕ) → Files → Files
+told (read f position buffer) count found files = files
+told (look f position) count found files = files
+told (write f position bytes) count found files = change f (afterWrite position (take count bytes)) files
+told (truncate f n) count found files = change f (afterTruncate n) files
+told (sync f budget) count found files = change f afterSync files
+told (mount budget) count found files = λ f. fresh (found f)
+
+-- a refusal changes no model file
+abbrev pub feed : Call → Coded → (ℕ → List ℕ) → Files → Files
+feed c a found files = ifDone a (told c (a .count) found files) files
+
+module _ (I : Interface) where
+  pub data Event : Type 0 where
+    call : Call → Event
+    -- the power goes between two calls
+    powerLost : I .Loss → Event
+
+  pub record World : Type 0 where
+    pub device : I .State
+    pub files : Files
+
+  abbrev pub step : World → Event → World
+  step w (call c) =
+      let r : Reply (I .State) = I .does c (w .device) in
+      record { device = r .device; files = feed c (r .answer) (I .onMedia (r .device)) (w .files) }
+  step w (powerLost x) = record { device = I .lose x (w .device); files = w .files }
+
+  -- right after a mount that is done
+  abbrev pub start : I .State → World
+  start d = record { device = d; files = λ f. fresh (I .onMedia d f) }
+
+  -- Q holds at every event of a list
+  abbrev pub Throughout : (World → Event → Type 0) → World → List Event → Type 0
+  Throughout Q w [] = Unit {0}
+  Throughout Q w (e ∷ es) = Q w e × Throughout Q (step w e) es
