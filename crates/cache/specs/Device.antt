@@ -1,6 +1,6 @@
 -- The device: the media, the page frames beside it, and the cache state. Document 01: the box, the held bytes, the books.
 use Prim.Native.Nat.{ℕ, _*_}
-use mathlib.Core.Bool.{Bool, false, not, _&&_}
+use mathlib.Core.Bool.{Bool, false, not, cond, _&&_}
 use mathlib.Core.List.{List}
 use lib.Dec.{eqb, ltb}
 use lib.ListN.{getD, set, replicate}
@@ -53,6 +53,10 @@ isCached d f p = ltb (slotOf d f p) slotCount
 -- the slot that a page takes when it becomes cached: the first that is free, or slotCount where none is
 abbrev pub firstFree : Device → ℕ
 firstFree d = firstIndex isFree (d .cache .slots)
+
+-- a slot, freed where its page is among those
+unfoldable pub freeWhere : (ℕ → ℕ → Bool) → Slot → Slot
+freeWhere among s = cond (s .used && among (s .file) (s .page)) freeSlot s
 
 -- ---- the cache state
 

@@ -9,8 +9,11 @@ use Rattle.cache.specs.declared.FileSizes.{FileSizes}
 use Rattle.cache.specs.Scan.{allOf}
 
 -- floor ≤ logical ≤ the greatest file size, and floor ≤ stored
+abbrev pub orderTests : ℕ → FileSizes → List Bool
+orderTests greatest s = leb (s .floor) (s .logical) ∷ leb (s .logical) greatest ∷ leb (s .floor) (s .stored) ∷ []
+
 unfoldable pub inOrder : ℕ → FileSizes → Bool
-inOrder greatest s = allOf (leb (s .floor) (s .logical) ∷ leb (s .logical) greatest ∷ leb (s .floor) (s .stored) ∷ [])
+inOrder greatest s = allOf (orderTests greatest s)
 
 -- the sizes after a truncate to n: the floor is the smallest so far, not the latest
 abbrev pub truncatedSizes : ℕ → FileSizes → FileSizes

@@ -30,12 +30,14 @@ sizesOf d f = record { logical = logicalAt d f; floor = floorAt d f; stored = si
 unfoldable pub isDown : Device → Bool
 isDown d = allOf (every isFree (d .cache .slots) ∷ every (λ n. eqb n 0) (d .cache .logical) ∷ every (λ n. eqb n 0) (d .cache .floor) ∷ [])
 
-unfoldable pub isSound : ℕ → Device → Bool
-isSound P d =
-    allOf
-    (leb (d .cache .mounted) 1
+unfoldable pub soundTests : ℕ → Device → List Bool
+soundTests P d =
+    leb (d .cache .mounted) 1
     ∷ every (inRange P) (d .cache .slots)
     ∷ everyBelow slotCount (holdsAlone d)
     ∷ everyBelow files (λ f. inOrder (fileBytes P) (sizesOf d f))
     ∷ cond (eqb (d .cache .mounted) 0) (isDown d) true
-    ∷ [])
+    ∷ []
+
+unfoldable pub isSound : ℕ → Device → Bool
+isSound P d = allOf (soundTests P d)

@@ -1,6 +1,6 @@
 -- Sync: document 01, "The calls". A plan of media writes, and as many of them done as the budget pays for.
 use Prim.Native.Nat.{ℕ, zero, suc}
-use mathlib.Core.Bool.{Bool, true, cond, _&&_}
+use mathlib.Core.Bool.{Bool, true, cond}
 use mathlib.Core.List.{List, [], _∷_, _++_, map}
 use lib.Dec.{eqb, ltb}
 use lib.ListN.{length, take}
@@ -9,9 +9,8 @@ use Rattle.memory.specs.Bytes.{part}
 use Rattle.media.specs.Geometry.{pageBytes}
 use Rattle.media.specs.Write.{MediaWrite, sizeAt, applyAll}
 use Rattle.media.specs.Write.MediaWrite.{page, size, trim}
-use Rattle.cache.specs.declared.Slot.{Slot}
 use Rattle.cache.specs.declared.CacheState.{CacheState}
-use Rattle.cache.specs.Device.{Device, deviceOf, frameStart, freeSlot, slotOf, isCached, logicalAt, floorAt, withSlots, withFloor, downState}
+use Rattle.cache.specs.Device.{Device, deviceOf, frameStart, slotOf, isCached, logicalAt, floorAt, freeWhere, withSlots, withFloor, downState}
 use Rattle.cache.specs.Admission.{Result, give, admit, fileTests}
 
 -- TRIM to the floor, if that is below the stored size
@@ -32,13 +31,13 @@ sizeWrites d f = cond (eqb (logicalAt d f) (floorAt d f)) [] (size f (logicalAt 
 unfoldable pub syncPlan : ℕ → Device → ℕ → List MediaWrite
 syncPlan P d f = trimWrites d f ++ (pageWrites d f P 0 ++ sizeWrites d f)
 
--- a slot, freed where its page is of file f
-unfoldable pub freeOf : ℕ → Slot → Slot
-freeOf f s = cond (s .used && eqb (s .file) f) freeSlot s
+-- the pages of file f
+abbrev pub pagesOf : ℕ → ℕ → ℕ → Bool
+pagesOf f g p = eqb g f
 
 -- the state after a sync: the pages of file f are free, and its floor is its logical size
 unfoldable pub syncedState : Device → ℕ → CacheState
-syncedState d f = withFloor (withSlots (d .cache) (map (freeOf f) (d .cache .slots))) f (logicalAt d f)
+syncedState d f = withFloor (withSlots (d .cache) (map (freeWhere (pagesOf f)) (d .cache .slots))) f (logicalAt d f)
 
 -- a plan under a budget: done with the number of its writes, and the state s; or CUT after as many first writes as the
 -- budget pays for, and down

@@ -1,22 +1,21 @@
 -- Truncate: document 01, "The calls".
 use Prim.Native.Nat.{ℕ, _+_, _-_, _*_, _/_, _%_}
-use mathlib.Core.Bool.{cond, _&&_}
+use mathlib.Core.Bool.{Bool, cond, _&&_}
 use mathlib.Core.List.{List, map}
 use lib.Dec.{eqb, leb}
 use Rattle.answer.specs.Coded.{done}
 use Rattle.memory.specs.Bytes.{zeros, overwrite}
 use Rattle.media.specs.Geometry.{pageBytes, fileBytes}
-use Rattle.cache.specs.declared.Slot.{Slot}
 use Rattle.cache.specs.declared.CacheState.{CacheState}
 use Rattle.cache.specs.declared.FileSizes.{FileSizes}
-use Rattle.cache.specs.Device.{Device, deviceOf, frameStart, freeSlot, slotOf, isCached, withSlots, withLogical, withFloor}
+use Rattle.cache.specs.Device.{Device, deviceOf, frameStart, slotOf, isCached, freeWhere, withSlots, withLogical, withFloor}
 use Rattle.cache.specs.Sizes.{truncatedSizes}
 use Rattle.cache.specs.Sound.{sizesOf}
 use Rattle.cache.specs.Admission.{Result, give, admit, fileTests}
 
--- a slot, freed where its page is of file f and begins at or past n
-unfoldable pub freeFrom : ℕ → ℕ → Slot → Slot
-freeFrom f n s = cond (s .used && (eqb (s .file) f && leb n (pageBytes * s .page))) freeSlot s
+-- the pages of file f that begin at or past n
+abbrev pub pagesFrom : ℕ → ℕ → ℕ → ℕ → Bool
+pagesFrom f n g p = eqb g f && leb n (pageBytes * p)
 
 -- the cached page that n falls inside gets zeros from n on
 unfoldable pub clearTail : ℕ → ℕ → Device → Device
@@ -35,7 +34,7 @@ unfoldable pub truncated : ℕ → ℕ → Device → Device
 truncated f n d =
     clearTail f n
     (deviceOf (d .media) (d .frames)
-    (withSizes f (truncatedSizes n (sizesOf d f)) (withSlots (d .cache) (map (freeFrom f n) (d .cache .slots)))))
+    (withSizes f (truncatedSizes n (sizesOf d f)) (withSlots (d .cache) (map (freeWhere (pagesFrom f n)) (d .cache .slots)))))
 
 unfoldable pub truncate : ℕ → ℕ → ℕ → Device → Result Device
 truncate P f n d = admit (fileTests P d f (leb n (fileBytes P))) d (give (done 0) (truncated f n d))

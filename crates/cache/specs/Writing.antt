@@ -16,10 +16,13 @@ use Rattle.cache.specs.Admission.{Result, give, admit, fileTests}
 abbrev pub hasSlot : Device → ℕ → ℕ → Bool
 hasSlot d f p = cond (isCached d f p) true (ltb (firstFree d) slotCount)
 
+unfoldable pub blankPage : List ℕ
+blankPage = zeros pageBytes
+
 -- page p of file f as it becomes cached: a blank page, overlaid with the bytes of the media below the floor
 unfoldable pub filledPage : ℕ → Device → ℕ → ℕ → List ℕ
 filledPage P d f p =
-    overwrite (zeros pageBytes) 0 (part (d .media .bytes) (pageStart P f p) (min pageBytes (floorAt d f - pageBytes * p)))
+    overwrite blankPage 0 (part (d .media .bytes) (pageStart P f p) (min pageBytes (floorAt d f - pageBytes * p)))
 
 -- page p of file f becomes cached
 unfoldable pub cachePage : ℕ → ℕ → ℕ → Device → Device

@@ -1,0 +1,128 @@
+-- A call's cases: refused with everything as it came, or admitted with what its tests showed.
+use mathlib.Core.Path.{_≡_, refl, sym, ap, _∙_}
+use mathlib.Core.Bool.{Bool, true, false, cond, _&&_, false≢true}
+use mathlib.Core.List.{List, [], _∷_, _++_}
+use Prim.Native.Nat.{ℕ, _<_, _≤_}
+use native.Mathlib.Omega.{arith}
+use lib.Dec.{eqb, leb}
+use lib.ListN.{length, getD}
+use borrow.Author.Tests.{eqb-true, ltb-true, leb-true, eq-eqb, lt-ltb, le-leb}
+use borrow.Table.Steps.{cases}
+use Rattle.answer.specs.Coded.{Coded, SHAPE}
+use Rattle.answer.specs.Admission.{Test, test, firstRefusal}
+use Rattle.answer.proofs.Admission.{refusing}
+use Rattle.media.specs.Geometry.{files, fileBytes, mediaBytes}
+use Rattle.cache.specs.Scan.{every}
+use Rattle.cache.specs.Device.{Device, framesBytes}
+use Rattle.cache.specs.Sound.{isSound}
+use Rattle.cache.specs.Admission.{Result, give, admit, mediaShape, framesShape, sizesFit, stateTests, fileTests}
+use Rattle.cache.proofs.Scan.{and-left, and-right, and-both, every-at, every-all}
+use Rattle.cache.proofs.Sound.{Fit, fit-sound}
+
+-- every test of the list holds
+abbrev pub passed : List Test → Bool
+passed ts = every (λ t. t .holds) ts
+
+refuses-first : (b r : Bool) → cond b false r ≡ true → b ≡ false
+refuses-first true r e = absurd (false≢true e)
+refuses-first false r e = refl
+
+refuses-rest : (b r : Bool) → cond b false r ≡ true → r ≡ true
+refuses-rest true r e = absurd (false≢true e)
+refuses-rest false r e = e
+
+module _ {A : Type 0} (before : A) where
+  pub admit-by : (Q : Result A → Type 0) (ts : List Test) (r : Result A) → refusing ts ≡ true
+      → ((a : Coded) → eqb (a .number) 0 ≡ false → Q (give a before)) → (passed ts ≡ true → Q r) → Q (admit ts before r)
+  admit-by Q [] r e fails holds = holds refl
+  admit-by Q (t ∷ ts) r e fails holds =
+      cases (t .holds)
+      (λ h. rw h (admit-by Q ts r (refuses-rest (eqb (t .refusal .number) 0) (refusing ts) e) fails (λ p. holds (and-both (t .holds) (passed ts) h p))))
+      (λ h. rw h (fails (t .refusal) (refuses-first (eqb (t .refusal .number) 0) (refusing ts) e)))
+
+  -- the answer is by the first test that fails
+  pub admit-answer : (ts : List Test) (r : Result A) → admit ts before r .answer ≡ firstRefusal ts (r .answer)
+  admit-answer [] r = refl
+  admit-answer (t ∷ ts) r = cases (t .holds) (λ h. rw h (admit-answer ts r)) (λ h. rw h)
+
+-- where the first tests hold, the others decide
+pub first-after : (ts us : List Test) (a : Coded) → passed ts ≡ true → firstRefusal (ts ++ us) a ≡ firstRefusal us a
+first-after [] us a e = refl
+first-after (t ∷ ts) us a e = rw (and-left (t .holds) (passed ts) e) (first-after ts us a (and-right (t .holds) (passed ts) e))
+
+passed-at : (ts : List Test) → passed ts ≡ true → (k : ℕ) → k < length ts → (getD ts k (test true SHAPE)) .holds ≡ true
+passed-at ts e k h = every-at (λ t. t .holds) ts (test true SHAPE) e k h
+
+module _ (P : ℕ) (d : Device) where
+  -- ---- the calls on a file
+
+  pub record Admitted (f : ℕ) (range : Bool) : Type 0 where
+    pub bytes : length (d .media .bytes) ≡ mediaBytes P
+    pub sizes : length (d .media .sizes) ≡ files
+    pub frames : length (d .frames) ≡ framesBytes
+    pub fit : every (λ n. leb n (fileBytes P)) (d .media .sizes) ≡ true
+    pub sound : isSound P d ≡ true
+    pub mounted : d .cache .mounted ≡ 1
+    pub file : f < files
+    pub in-range : range ≡ true
+
+  pub file-refusing : (f : ℕ) (range : Bool) (us : List Test) → refusing us ≡ true → refusing (fileTests P d f range ++ us) ≡ true
+  unfolding mediaShape framesShape sizesFit stateTests
+  file-refusing f range us e = e
+
+  pub file-admitted : (f : ℕ) (range : Bool) (us : List Test) → passed (fileTests P d f range ++ us) ≡ true → Admitted f range
+  unfolding mediaShape framesShape sizesFit stateTests
+  file-admitted f range us e =
+      let at : (k : ℕ) → k < 8 → (getD (fileTests P d f range ++ us) k (test true SHAPE)) .holds ≡ true =
+      λ k h. passed-at (fileTests P d f range ++ us) e k (omega arith) in
+      record {
+        bytes = eqb-true _ _ (at 0 (omega arith));
+        sizes = eqb-true _ _ (at 1 (omega arith));
+        frames = eqb-true _ _ (at 2 (omega arith));
+        fit = at 3 (omega arith);
+        sound = at 4 (omega arith);
+        mounted = eqb-true _ _ (at 5 (omega arith));
+        file = ltb-true _ _ (at 6 (omega arith));
+        in-range = at 7 (omega arith);
+      }
+
+  pub fits-all : Fit P d → every (λ n. leb n (fileBytes P)) (d .media .sizes) ≡ true
+  fits-all x =
+      every-all (λ n. leb n (fileBytes P)) (d .media .sizes) 0 (λ k h. le-leb _ _ (x .sizes .stored-fits k (rw (x .sizes .stored-count) at h)))
+
+  -- a mounted device in good order is refused only for its arguments
+  pub file-passes : (f : ℕ) (range : Bool) → Fit P d → d .cache .mounted ≡ 1 → length (d .frames) ≡ framesBytes → f < files → range ≡ true
+      → passed (fileTests P d f range) ≡ true
+  unfolding mediaShape framesShape sizesFit stateTests
+  file-passes f range x up fr hf hr =
+      rw (eq-eqb _ _ (x .bytes), eq-eqb _ _ (x .sizes .stored-count), eq-eqb _ _ fr, fits-all x, fit-sound P d x up, eq-eqb _ _ up, lt-ltb _ _ hf, hr)
+
+  -- ---- mount
+
+  pub record Mountable : Type 0 where
+    pub bytes : length (d .media .bytes) ≡ mediaBytes P
+    pub sizes : length (d .media .sizes) ≡ files
+    pub fit : (f : ℕ) → f < files → getD (d .media .sizes) f 0 ≤ fileBytes P
+
+  pub mount-refusing : refusing (mediaShape P d ++ sizesFit P d) ≡ true
+  unfolding mediaShape sizesFit
+  mount-refusing = refl
+
+  pub mount-admitted : passed (mediaShape P d ++ sizesFit P d) ≡ true → Mountable
+  unfolding mediaShape sizesFit
+  mount-admitted e =
+      let at : (k : ℕ) → k < 3 → (getD (mediaShape P d ++ sizesFit P d) k (test true SHAPE)) .holds ≡ true =
+      λ k h. passed-at (mediaShape P d ++ sizesFit P d) e k (omega arith) in
+      let count : length (d .media .sizes) ≡ files = eqb-true _ _ (at 1 (omega arith)) in
+      record {
+        bytes = eqb-true _ _ (at 0 (omega arith));
+        sizes = count;
+        fit = λ f h. leb-true _ _ (every-at (λ n. leb n (fileBytes P)) (d .media .sizes) 0 (at 2 (omega arith)) f (rw count h));
+      }
+
+  pub mount-passes : Mountable → passed (mediaShape P d ++ sizesFit P d) ≡ true
+  unfolding mediaShape sizesFit
+  mount-passes x =
+      let all : every (λ n. leb n (fileBytes P)) (d .media .sizes) ≡ true =
+      every-all (λ n. leb n (fileBytes P)) (d .media .sizes) 0 (λ k h. le-leb _ _ (x .fit k (rw (x .sizes) at h))) in
+      rw (eq-eqb _ _ (x .bytes), eq-eqb _ _ (x .sizes), all)

@@ -1,0 +1,194 @@
+-- Sound cache states as facts, and what keeps them.
+use mathlib.Core.Path.{_≡_, refl, sym, ap, _∙_, subst}
+use mathlib.Core.Logic.{_≢_}
+use mathlib.Core.Bool.{Bool, true, false, not, cond, _&&_, false≢true}
+use mathlib.Core.List.{List, map}
+use Prim.Native.Nat.{ℕ, zero, suc, _<_, _≤_, min}
+use native.Mathlib.Omega.{arith}
+use lib.Dec.{eqb, ltb, leb}
+use lib.ListN.{length, getD, set, length-set, length-map, replicate, List·getD-map}
+use lib.Seq.{getD-set-same, getD-set-other}
+use borrow.Author.Tests.{eqb-true, ltb-true, leb-true, eq-eqb, ne-eqb, lt-ltb, le-leb}
+use borrow.Table.Steps.{cases}
+use Rattle.memory.proofs.Cases.{split-eq}
+use Rattle.media.specs.Geometry.{files, fileBytes, mediaBytes}
+use Rattle.cache.specs.declared.Slot.{Slot}
+use Rattle.cache.specs.declared.FileSizes.{FileSizes}
+use Rattle.cache.specs.Scan.{allOf, every, everyBelow, firstIndex}
+use Rattle.cache.specs.Device.{Device, slotCount, freeSlot, noSlots, isFree, holds, slotOf, freeWhere, logicalAt, floorAt}
+use Rattle.cache.specs.Sizes.{orderTests, inOrder}
+use Rattle.cache.specs.Sound.{inRange, holdsAlone, sizesOf, soundTests, isSound}
+use Rattle.cache.proofs.Scan.{and-left, and-right, is-false, true-not-false, allOf-at, everyBelow-at, everyBelow-all, every-at, every-all, first-set, first-set-here}
+use Rattle.cache.proofs.Device.{holds-own, holds-one, free-holds, slot-stays}
+
+module _ (P : ℕ) where
+  -- ---- facts
+
+  -- used slots name pages that there are, and no page twice
+  pub record SlotsFit (slots : List Slot) : Type 0 where
+    pub count : length slots ≡ slotCount
+    pub named : (k : ℕ) → k < slotCount → inRange P (getD slots k freeSlot) ≡ true
+    pub alone : (k : ℕ) (s : Slot) → getD slots k freeSlot ≡ s → k < slotCount → s .used ≡ true → firstIndex (holds (s .file) (s .page)) slots ≡ k
+
+  pub record SizesFit (logical floor stored : List ℕ) : Type 0 where
+    pub logical-count : length logical ≡ files
+    pub floor-count : length floor ≡ files
+    pub stored-count : length stored ≡ files
+    pub floor-logical : (f : ℕ) → f < files → getD floor f 0 ≤ getD logical f 0
+    pub logical-fits : (f : ℕ) → f < files → getD logical f 0 ≤ fileBytes P
+    pub floor-stored : (f : ℕ) → f < files → getD floor f 0 ≤ getD stored f 0
+    pub stored-fits : (f : ℕ) → f < files → getD stored f 0 ≤ fileBytes P
+
+  -- all but the length of the page frames
+  pub record Fit (d : Device) : Type 0 where
+    pub bytes : length (d .media .bytes) ≡ mediaBytes P
+    pub slots : SlotsFit (d .cache .slots)
+    pub sizes : SizesFit (d .cache .logical) (d .cache .floor) (d .media .sizes)
+
+  -- ---- what the tests say
+
+  pub order-true : (g : ℕ) (s : FileSizes) → s .floor ≤ s .logical → s .logical ≤ g → s .floor ≤ s .stored → inOrder g s ≡ true
+  unfolding inOrder
+  order-true g s a b c = rw (le-leb _ _ a, le-leb _ _ b, le-leb _ _ c)
+
+  pub order-is : (g : ℕ) (s : FileSizes) → inOrder g s ≡ true → (s .floor ≤ s .logical) × (s .logical ≤ g) × (s .floor ≤ s .stored)
+  unfolding inOrder
+  order-is g s e = (leb-true _ _ (allOf-at (orderTests g s) e 0), leb-true _ _ (allOf-at (orderTests g s) e 1), leb-true _ _ (allOf-at (orderTests g s) e 2))
+
+  -- a mounted device with these facts is sound
+  pub fit-sound : (d : Device) → Fit d → d .cache .mounted ≡ 1 → isSound P d ≡ true
+  unfolding isSound soundTests holdsAlone
+  fit-sound d x up =
+      let named : every (inRange P) (d .cache .slots) ≡ true =
+      every-all (inRange P) (d .cache .slots) freeSlot (λ k h. x .slots .named k (rw (x .slots .count) at h)) in
+      let alone : everyBelow slotCount (holdsAlone d) ≡ true =
+      everyBelow-all slotCount (holdsAlone d) (λ k h.
+      cases (getD (d .cache .slots) k freeSlot .used)
+      (λ u. rw (u, eq-eqb _ _ (x .slots .alone k (getD (d .cache .slots) k freeSlot) refl h u)))
+      (λ u. rw u)) in
+      let order : everyBelow files (λ f. inOrder (fileBytes P) (sizesOf d f)) ≡ true =
+      everyBelow-all files (λ f. inOrder (fileBytes P) (sizesOf d f)) (λ f h.
+      order-true (fileBytes P) (sizesOf d f) (x .sizes .floor-logical f h) (x .sizes .logical-fits f h) (x .sizes .floor-stored f h)) in
+      rw (up, named, alone, order)
+
+  -- a sound device has these facts, where its lists are as long as the code's arrays
+  pub sound-fit : (d : Device) → isSound P d ≡ true → length (d .media .bytes) ≡ mediaBytes P → length (d .media .sizes) ≡ files
+      → every (λ n. leb n (fileBytes P)) (d .media .sizes) ≡ true → length (d .cache .slots) ≡ slotCount
+      → length (d .cache .logical) ≡ files → length (d .cache .floor) ≡ files → Fit d
+  unfolding isSound soundTests holdsAlone
+  sound-fit d e lb ls fit lk ll lf =
+      let order : (f : ℕ) → f < files → inOrder (fileBytes P) (sizesOf d f) ≡ true = everyBelow-at files _ (allOf-at (soundTests P d) e 3) in
+      record {
+        bytes = lb;
+        slots = record {
+          count = lk;
+          named = λ k h. every-at (inRange P) (d .cache .slots) freeSlot (allOf-at (soundTests P d) e 1) k (rw lk h);
+          alone = λ k s es h u.
+              let t : holdsAlone d k ≡ true = everyBelow-at slotCount (holdsAlone d) (allOf-at (soundTests P d) e 2) k h in
+              eqb-true _ _ (rw (es, u) at t);
+        };
+        sizes = record {
+          logical-count = ll;
+          floor-count = lf;
+          stored-count = ls;
+          floor-logical = λ f h. order-is (fileBytes P) (sizesOf d f) (order f h) .0;
+          logical-fits = λ f h. order-is (fileBytes P) (sizesOf d f) (order f h) .1;
+          floor-stored = λ f h. order-is (fileBytes P) (sizesOf d f) (order f h) .2;
+          stored-fits = λ f h. leb-true _ _ (every-at (λ n. leb n (fileBytes P)) (d .media .sizes) 0 fit f (rw ls h));
+        };
+      }
+
+  -- ---- what keeps the slots
+
+  free-at : (n k : ℕ) → getD (replicate n freeSlot) k freeSlot ≡ freeSlot
+  free-at zero k = refl
+  free-at (suc n) zero = refl
+  free-at (suc n) (suc k) = free-at n k
+
+  pub none-fit : SlotsFit noSlots
+  unfolding inRange
+  none-fit = record {
+    count = refl;
+    named = λ k h. rw (free-at slotCount k);
+    alone = λ k s e h u. absurd (false≢true (ap (λ (z : Slot). z .used) (sym (free-at slotCount k) ∙ e) ∙ u));
+  }
+
+  -- a free slot takes a page that none holds
+  pub take-fit : (slots : List Slot) (f p j : ℕ) → SlotsFit slots → f < files → p < P → slotCount ≤ firstIndex (holds f p) slots → j < slotCount
+      → isFree (getD slots j freeSlot) ≡ true → SlotsFit (set slots j (record { used = true; file = f; page = p }))
+  unfolding inRange
+  take-fit slots f p j x hf hp none hj free =
+      let y : Slot = record { used = true; file = f; page = p } in
+      record {
+        count = rw length-set (x .count);
+        named = λ k h.
+            split-eq k j
+            (λ e. rw (e, getD-set-same slots j y freeSlot (omega (arith, x .count)), lt-ltb f files hf, lt-ltb p P hp))
+            (λ ne. rw (getD-set-other slots j k y freeSlot ne) (x .named k h));
+        alone = λ k s es h u.
+            split-eq k j
+            (λ e.
+            let q : y ≡ s = sym (getD-set-same slots j y freeSlot (omega (arith, x .count))) ∙ (rw e at es) in
+            rw (← q, e) (first-set-here (holds f p) slots j y (holds-own f p y refl refl refl) (omega (arith, x .count)) (omega (arith, x .count))))
+            (λ ne.
+            let q : getD slots k freeSlot ≡ s = sym (getD-set-other slots j k y freeSlot ne) ∙ es in
+            let o : firstIndex (holds (s .file) (s .page)) slots ≡ k = x .alone k s q h u in
+            first-set (holds (s .file) (s .page)) slots j y freeSlot
+            (holds-one f p (s .file) (s .page) y refl refl (λ e. let z : firstIndex (holds f p) slots ≡ k = rw (e .0, e .1) at o in absurd (omega arith)))
+            (free-holds (s .file) (s .page) (getD slots j freeSlot) free)
+            ∙ o);
+      }
+
+  -- some slots are freed
+  pub freed-fit : (slots : List Slot) (among : ℕ → ℕ → Bool) → SlotsFit slots → SlotsFit (map (freeWhere among) slots)
+  unfolding freeWhere inRange
+  freed-fit slots among x = record {
+    count = length-map slots (freeWhere among) ∙ x .count;
+    named = λ k h. rw (at k)
+        (cases (getD slots k freeSlot .used && among (getD slots k freeSlot .file) (getD slots k freeSlot .page))
+        (λ e. rw e)
+        (λ e. rw e (x .named k h)));
+    alone = λ k s es h u.
+        let q : freeWhere among (getD slots k freeSlot) ≡ s = sym (at k) ∙ es in
+        let r = kept (getD slots k freeSlot) s q u in
+        slot-stays among (s .file) (s .page) slots (r .1) ∙ x .alone k s (r .0) h u;
+  }
+    where
+      at : (k : ℕ) → getD (map (freeWhere among) slots) k freeSlot ≡ freeWhere among (getD slots k freeSlot)
+      at k = List·getD-map (freeWhere among) slots k freeSlot
+
+      -- a slot that is still used is as it was
+      kept : (z s : Slot) → freeWhere among z ≡ s → s .used ≡ true → (z ≡ s) × (among (s .file) (s .page) ≡ false)
+      kept z s q u =
+          cases (z .used && among (z .file) (z .page))
+          (λ e. absurd (false≢true (ap (λ (y : Slot). y .used) (rw e at q) ∙ u)))
+          (λ e.
+          let q′ : z ≡ s = rw e at q in
+          (q′, is-false (among (s .file) (s .page)) (λ t. true-not-false (s .used && among (s .file) (s .page)) (rw (u, t)) (rw q′ at e))))
+
+  -- ---- what keeps the sizes
+
+  module _ (logical floor stored : List ℕ) (x : SizesFit logical floor stored) (f : ℕ) (hf : f < files) where
+    -- the sizes of file f are replaced by others in order
+    pub sizes-fit : (l c : ℕ) → c ≤ l → l ≤ fileBytes P → c ≤ getD stored f 0 → SizesFit (set logical f l) (set floor f c) stored
+    sizes-fit l c cl lt cs = record {
+      logical-count = rw length-set (x .logical-count);
+      floor-count = rw length-set (x .floor-count);
+      stored-count = x .stored-count;
+      floor-logical = λ g h. split-eq g f
+          (λ e. rw (e, same-floor c, same-logical l) cl)
+          (λ ne. rw (getD-set-other floor f g c 0 ne, getD-set-other logical f g l 0 ne) (x .floor-logical g h));
+      logical-fits = λ g h. split-eq g f
+          (λ e. rw (e, same-logical l) lt)
+          (λ ne. rw (getD-set-other logical f g l 0 ne) (x .logical-fits g h));
+      floor-stored = λ g h. split-eq g f
+          (λ e. rw (e, same-floor c) cs)
+          (λ ne. rw (getD-set-other floor f g c 0 ne) (x .floor-stored g h));
+      stored-fits = x .stored-fits;
+    }
+      where
+        same-logical : (l : ℕ) → getD (set logical f l) f 0 ≡ l
+        same-logical l = getD-set-same logical f l 0 (omega (arith, x .logical-count))
+
+        same-floor : (c : ℕ) → getD (set floor f c) f 0 ≡ c
+        same-floor c = getD-set-same floor f c 0 (omega (arith, x .floor-count))

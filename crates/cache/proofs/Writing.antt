@@ -1,0 +1,350 @@
+-- What a write does to the current bytes: a page that becomes cached, a page that is patched, page after page.
+use mathlib.Core.Path.{_≡_, refl, sym, ap, _∙_, subst}
+use mathlib.Core.Logic.{_≢_, _⊎_, inl, inr}
+use mathlib.Core.Bool.{Bool, true, false, cond}
+use mathlib.Core.List.{List, [], _∷_}
+use Prim.Native.Nat.{ℕ, zero, suc, _+_, _-_, _*_, _/_, _%_, _≤_, _<_, min, max}
+use native.Mathlib.Omega.{arith}
+use lib.Dec.{ltb}
+use lib.ListN.{length, getD, set, take, drop, length-set, length-take, length-drop, length-replicate}
+use native.Mathlib.Nat.{add-zero}
+use lib.Seq.{getD-take, getD-drop, drop-drop}
+use borrow.Author.Tests.{ltb-true, ltb-false, lt-ltb, le-ltb, eq-eqb, ne-eqb}
+use borrow.Table.Steps.{cases}
+use Rattle.memory.specs.Bytes.{zeros, part, overwrite}
+use Rattle.memory.proofs.Cases.{split-lt, split-eq}
+use Rattle.memory.proofs.Bytes.{getD-zeros, length-part, getD-part, length-overwrite, overwrite-none, overwrite-before, overwrite-in, overwrite-after}
+use Rattle.media.specs.Geometry.{files, pageBytes, fileBytes, mediaBytes, fileStart, pageStart}
+use Rattle.media.specs.Write.{byteAt}
+use Rattle.media.proofs.Geometry.{file-end, page-end}
+use Rattle.cache.specs.declared.Slot.{Slot}
+use Rattle.cache.specs.Scan.{firstIndex}
+use Rattle.cache.specs.Device.{Device, slotCount, framesBytes, frameStart, freeSlot, isFree, holds, slotOf, isCached, firstFree, floorAt}
+use Rattle.cache.specs.Current.{frameByte, currentAt}
+use Rattle.cache.specs.Writing.{hasSlot, blankPage, filledPage, cachePage, patchPage, putPage, Written, andMore, putPages, hasRoom}
+use Rattle.cache.proofs.Scan.{first-set, first-set-here}
+use Rattle.cache.proofs.Device.{holds-own, holds-one, free-holds, slots-apart, first-free-was-free, free-apart, frame-other}
+use Rattle.cache.proofs.Current.{current-cached, current-media, current-zero, current-same}
+use Rattle.cache.proofs.Sound.{SlotsFit, take-fit}
+
+module _ (P : ℕ) where
+  -- what a page step needs of a device
+  pub record Framed (d : Device) : Type 0 where
+    pub bytes : length (d .media .bytes) ≡ mediaBytes P
+    pub frames : length (d .frames) ≡ framesBytes
+    pub slots : SlotsFit P (d .cache .slots)
+
+  -- only slots and frames differ
+  pub record SameBut (d c : Device) : Type 0 where
+    pub media : c .media ≡ d .media
+    pub mounted : c .cache .mounted ≡ d .cache .mounted
+    pub logical : c .cache .logical ≡ d .cache .logical
+    pub floor : c .cache .floor ≡ d .cache .floor
+
+  same-trans : {a b c : Device} → SameBut a b → SameBut b c → SameBut a c
+  same-trans x y = record {
+    media = y .media ∙ x .media;
+    mounted = y .mounted ∙ x .mounted;
+    logical = y .logical ∙ x .logical;
+    floor = y .floor ∙ x .floor;
+  }
+
+  -- c is d with the n bytes of file f from a on replaced by the first of bytes
+  pub record Puts (f a n : ℕ) (bytes : List ℕ) (d c : Device) : Type 0 where
+    pub framed : Framed c
+    pub same : SameBut d c
+    pub inside : (i : ℕ) → a ≤ i → i < a + n → currentAt P c f i ≡ getD bytes (i - a) 0
+    pub below : (i : ℕ) → i < a → currentAt P c f i ≡ currentAt P d f i
+    pub above : (i : ℕ) → a + n ≤ i → currentAt P c f i ≡ currentAt P d f i
+    pub others : (g i : ℕ) → g ≢ f → currentAt P c g i ≡ currentAt P d g i
+
+  -- ---- a page that becomes cached
+
+  length-blank : length blankPage ≡ pageBytes
+  unfolding blankPage
+  length-blank = length-replicate {A = ℕ} pageBytes 0
+
+  blank-zero : (r : ℕ) → getD blankPage r 0 ≡ 0
+  unfolding blankPage
+  blank-zero r = getD-zeros pageBytes r
+
+  module _ (d : Device) (x : Framed d) (f p : ℕ) (hf : f < files) (hp : p < P) where
+    -- as many bytes of the media as lie below the floor
+    n : ℕ
+    n = min pageBytes (floorAt d f - pageBytes * p)
+
+    -- the bytes of the media that it is overlaid with
+    over : List ℕ
+    over = part (d .media .bytes) (pageStart P f p) n
+
+    length-over : length over ≡ n
+    unfolding n over
+    length-over =
+        length-part (d .media .bytes) (pageStart P f p) (min pageBytes (floorAt d f - pageBytes * p))
+        (omega (arith, file-end P f hf, page-end P p hp, x .bytes))
+
+    pub length-filled : length (filledPage P d f p) ≡ pageBytes
+    unfolding filledPage n over
+    length-filled = length-overwrite blankPage 0 over ∙ length-blank
+
+    filled-media : (r : ℕ) → r < pageBytes → pageBytes * p + r < floorAt d f → getD (filledPage P d f p) r 0 ≡ byteAt P (d .media) f (pageBytes * p + r)
+    unfolding filledPage n over
+    filled-media r hr hc =
+        overwrite-in blankPage 0 over r (omega arith) (omega (arith, length-over)) (omega (arith, length-blank))
+        ∙ getD-part (d .media .bytes) (pageStart P f p) n (r - 0) (omega arith)
+        ∙ ap (λ (k : ℕ). getD (d .media .bytes) k 0) (omega arith)
+
+    filled-zero : (r : ℕ) → floorAt d f ≤ pageBytes * p + r → r < pageBytes → getD (filledPage P d f p) r 0 ≡ 0
+    unfolding filledPage n over
+    filled-zero r hc hr = overwrite-after blankPage 0 over r (omega (arith, length-over)) ∙ blank-zero r
+
+    -- a page that begins at or past the floor starts as zeros
+    pub blank-past-floor : floorAt d f ≤ pageBytes * p → filledPage P d f p ≡ blankPage
+    unfolding filledPage
+    blank-past-floor h = let z : min pageBytes (floorAt d f - pageBytes * p) ≡ 0 = omega arith in rw (z, overwrite-none)
+
+    module _ (none : slotCount ≤ slotOf d f p) (room : firstFree d < slotCount) where
+      free : isFree (getD (d .cache .slots) (firstFree d) freeSlot) ≡ true
+      free = first-free-was-free d (omega (arith, x .slots .count))
+
+      pub cached-slot : slotOf (cachePage P f p d) f p ≡ firstFree d
+      unfolding cachePage
+      cached-slot =
+          first-set-here (holds f p) (d .cache .slots) (firstFree d) (record { used = true; file = f; page = p })
+          (rw (eq-eqb f f refl, eq-eqb p p refl)) (omega (arith, x .slots .count)) (omega (arith, x .slots .count))
+
+      pub cached-framed : Framed (cachePage P f p d)
+      unfolding cachePage
+      cached-framed = record {
+        bytes = x .bytes;
+        frames = rw length-overwrite (x .frames);
+        slots = take-fit P (d .cache .slots) f p (firstFree d) (x .slots) hf hp none room free;
+      }
+
+      pub cached-same : SameBut d (cachePage P f p d)
+      unfolding cachePage
+      cached-same = record { media = refl; mounted = refl; logical = refl; floor = refl }
+
+      -- its own bytes
+      cached-own : (i : ℕ) → i / pageBytes ≡ p → currentAt P (cachePage P f p d) f i ≡ currentAt P d f i
+      unfolding cachePage
+      cached-own i e =
+          let r : ℕ = i % pageBytes in
+          let own : slotOf (cachePage P f p d) f p ≡ firstFree d = cached-slot in
+          let z : frameStart (firstFree d) + i % pageBytes - frameStart (firstFree d) ≡ i % pageBytes = omega arith in
+          current-cached P (cachePage P f p d) f i p e (omega arith)
+          ∙ ap (λ (j : ℕ). frameByte (cachePage P f p d) j (i % pageBytes)) own
+          ∙ overwrite-in (d .frames) (frameStart (firstFree d)) (filledPage P d f p) (frameStart (firstFree d) + i % pageBytes)
+          (omega arith) (omega (arith, length-filled)) (omega (arith, x .frames))
+          ∙ rw z
+          (split-lt i (floorAt d f)
+          (λ l.
+          filled-media (i % pageBytes) (omega arith) (omega arith)
+          ∙ ap (byteAt P (d .media) f) (omega arith)
+          ∙ sym (current-media P d f i p e none l))
+          (λ l. filled-zero (i % pageBytes) (omega arith) (omega arith) ∙ sym (current-zero P d f i p e none l)))
+
+      -- the bytes of other pages
+      cached-other : (g i : ℕ) → ((g ≡ f) × (i / pageBytes ≡ p) → ⊥) → currentAt P (cachePage P f p d) g i ≡ currentAt P d g i
+      unfolding cachePage
+      cached-other g i ne =
+          let q : ℕ = i / pageBytes in
+          let y : Slot = record { used = true; file = f; page = p } in
+          current-same P d (cachePage P f p d) g i
+          (first-set (holds g (i / pageBytes)) (d .cache .slots) (firstFree d) y freeSlot (holds-one f p g (i / pageBytes) y refl refl ne)
+          (free-holds g (i / pageBytes) (getD (d .cache .slots) (firstFree d) freeSlot) free))
+          (λ l.
+          frame-other (d .frames) (filledPage P d f p) (firstFree d) (slotOf d g (i / pageBytes)) (frameStart (firstFree d)) (i % pageBytes)
+          (free-apart d (firstFree d) g (i / pageBytes) free (omega (arith, x .slots .count)))
+          (omega arith) (omega (arith, length-filled)) (omega arith))
+          refl refl
+
+      -- no current byte changes when a page becomes cached
+      pub cached-current : (g i : ℕ) → currentAt P (cachePage P f p d) g i ≡ currentAt P d g i
+      cached-current g i =
+          split-eq g f
+          (λ eg.
+          split-eq (i / pageBytes) p
+          (λ ep. rw eg (cached-own i ep))
+          (λ ne. cached-other g i (λ e. ne (e .1))))
+          (λ ne. cached-other g i (λ e. ne (e .0)))
+
+  -- ---- a cached page that is patched
+
+  module _ (d : Device) (x : Framed d) (f p offset : ℕ) (bytes : List ℕ) (cached : slotOf d f p < slotCount) (fits : offset + length bytes ≤ pageBytes) where
+    patch-own : (i : ℕ) → i / pageBytes ≡ p
+        → currentAt P (patchPage f p offset bytes d) f i ≡ getD (overwrite (d .frames) (frameStart (slotOf d f p) + offset) bytes) (frameStart (slotOf d f p) + i % pageBytes) 0
+    unfolding patchPage
+    patch-own i e = current-cached P (patchPage f p offset bytes d) f i p e cached
+
+    patch-other : (g i : ℕ) → ((g ≡ f) × (i / pageBytes ≡ p) → ⊥) → currentAt P (patchPage f p offset bytes d) g i ≡ currentAt P d g i
+    unfolding patchPage
+    patch-other g i ne =
+        current-same P d (patchPage f p offset bytes d) g i refl
+        (λ l.
+        frame-other (d .frames) bytes (slotOf d f p) (slotOf d g (i / pageBytes)) (frameStart (slotOf d f p) + offset) (i % pageBytes)
+        (slots-apart d f p g (i / pageBytes) ne (omega (arith, x .slots .count)) (omega (arith, x .slots .count)))
+        (omega arith) (omega arith) (omega arith))
+        refl refl
+
+    pub patch-puts : Puts f (pageBytes * p + offset) (length bytes) bytes d (patchPage f p offset bytes d)
+    unfolding patchPage
+    patch-puts =
+        let a : ℕ = frameStart (slotOf d f p) + offset in
+        record {
+          framed = record { bytes = x .bytes; frames = rw length-overwrite (x .frames); slots = x .slots };
+          same = record { media = refl; mounted = refl; logical = refl; floor = refl };
+          inside = λ i lo hi.
+              patch-own i (omega arith)
+              ∙ overwrite-in (d .frames) a bytes (frameStart (slotOf d f p) + i % pageBytes) (omega arith) (omega arith) (omega (arith, x .frames))
+              ∙ ap (λ (k : ℕ). getD bytes k 0) (omega arith);
+          below = λ i h.
+              split-eq (i / pageBytes) p
+              (λ e.
+              patch-own i e
+              ∙ overwrite-before (d .frames) a bytes (frameStart (slotOf d f p) + i % pageBytes) (omega arith)
+              ∙ sym (current-cached P d f i p e cached))
+              (λ ne. patch-other f i (λ e. ne (e .1)));
+          above = λ i h.
+              split-eq (i / pageBytes) p
+              (λ e.
+              patch-own i e
+              ∙ overwrite-after (d .frames) a bytes (frameStart (slotOf d f p) + i % pageBytes) (omega arith)
+              ∙ sym (current-cached P d f i p e cached))
+              (λ ne. patch-other f i (λ e. ne (e .1)));
+          others = λ g i ne. patch-other g i (λ e. ne (e .0));
+        }
+
+  -- ---- one page takes its piece
+
+  module _ (d : Device) (x : Framed d) (f p offset : ℕ) (bytes : List ℕ) (hf : f < files) (hp : p < P) (fits : offset + length bytes ≤ pageBytes) where
+    pub put-page : hasSlot d f p ≡ true → Puts f (pageBytes * p + offset) (length bytes) bytes d (putPage P f p offset bytes d)
+    unfolding putPage
+    put-page room =
+        split-lt (slotOf d f p) slotCount
+        (λ l. rw (lt-ltb _ _ l) (patch-puts d x f p offset bytes l fits))
+        (λ l.
+        let free : firstFree d < slotCount = ltb-true _ _ (rw (le-ltb _ _ l) at room) in
+        let c : Device = cachePage P f p d in
+        let own : slotOf (cachePage P f p d) f p ≡ firstFree d = cached-slot d x f p hf hp l free in
+        let y = patch-puts (cachePage P f p d) (cached-framed d x f p hf hp l free) f p offset bytes (omega arith) fits in
+        let same : (g i : ℕ) → currentAt P (cachePage P f p d) g i ≡ currentAt P d g i = cached-current d x f p hf hp l free in
+        rw (le-ltb _ _ l)
+        (record {
+          framed = y .framed;
+          same = same-trans (cached-same d x f p hf hp l free) (y .same);
+          inside = y .inside;
+          below = λ i h. y .below i h ∙ same f i;
+          above = λ i h. y .above i h ∙ same f i;
+          others = λ g i ne. y .others g i ne ∙ same g i;
+        }))
+
+  -- ---- page after page
+
+  same-refl : (d : Device) → SameBut d d
+  same-refl d = record { media = refl; mounted = refl; logical = refl; floor = refl }
+
+  puts-none : (f a : ℕ) (bytes : List ℕ) (d : Device) → Framed d → Puts f a 0 bytes d d
+  puts-none f a bytes d x = record {
+    framed = x;
+    same = same-refl d;
+    inside = λ i lo hi. absurd (omega arith);
+    below = λ i h. refl;
+    above = λ i h. refl;
+    others = λ g i ne. refl;
+  }
+
+  -- the first m bytes, as far as there are, from a on; then n of the rest from b on
+  puts-more : (f a m b n : ℕ) (bytes : List ℕ) (d e c : Device) → b ≡ a + m → n ≤ length (drop m bytes)
+      → Puts f a (length (take m bytes)) (take m bytes) d e → Puts f b n (drop m bytes) e c
+      → Puts f a (length (take m bytes) + n) bytes d c
+  puts-more f a m b n bytes d e c eb hn x y =
+      let lt : length (take m bytes) ≡ min m (length bytes) = length-take m bytes in
+      let ld : length (drop m bytes) ≡ length bytes - m = length-drop m bytes in
+      record {
+        framed = y .framed;
+        same = same-trans (x .same) (y .same);
+        inside = λ i lo hi.
+            split-lt i (a + length (take m bytes))
+            (λ l. y .below i (omega arith) ∙ x .inside i lo l ∙ getD-take m bytes (i - a) 0 (omega arith))
+            (λ l. y .inside i (omega arith) (omega arith) ∙ getD-drop m bytes (i - b) 0 ∙ ap (λ (j : ℕ). getD bytes j 0) (omega arith));
+        below = λ i h. y .below i (omega arith) ∙ x .below i h;
+        above = λ i h.
+            split-lt i b
+            (λ l. y .below i l ∙ x .above i (omega arith))
+            (λ l. y .above i (omega arith) ∙ x .above i (omega arith));
+        others = λ g i ne. y .others g i ne ∙ x .others g i ne;
+      }
+
+  -- what is put down, and where it stops
+  pub record Wrote (f position : ℕ) (bytes : List ℕ) (d : Device) (w : Written) : Type 0 where
+    pub most : w .count ≤ length bytes
+    pub puts : Puts f position (w .count) bytes d (w .device)
+
+  pub put-pages : (f : ℕ) → f < files → (n position : ℕ) (bytes : List ℕ) (d : Device) → Framed d → position + length bytes ≤ fileBytes P
+      → Wrote f position bytes d (putPages P f n position bytes d)
+  put-pages f hf zero position bytes d x fit = record { most = omega arith; puts = puts-none f position bytes d x }
+  put-pages f hf (suc n) position [] d x fit = record { most = omega arith; puts = puts-none f position [] d x }
+  put-pages f hf (suc n) position (b ∷ bs) d x fit =
+      let bytes : List ℕ = b ∷ bs in
+      let p : ℕ = position / pageBytes in
+      let offset : ℕ = position % pageBytes in
+      let m : ℕ = pageBytes - position % pageBytes in
+      let at : pageBytes * (position / pageBytes) + position % pageBytes ≡ position = omega arith in
+      cases (hasSlot d f (position / pageBytes))
+      (λ e. rw e
+      (let l : length (take m (b ∷ bs)) ≡ min m (length (b ∷ bs)) = length-take m (b ∷ bs) in
+      let ld : length (drop m (b ∷ bs)) ≡ length (b ∷ bs) - m = length-drop m (b ∷ bs) in
+      let one : Puts f position (length (take m (b ∷ bs))) (take m (b ∷ bs)) d (putPage P f p offset (take m (b ∷ bs)) d) =
+      rw at at (put-page d x f p offset (take m (b ∷ bs)) hf (omega arith) (omega arith) e) in
+      let rest = put-pages f hf n (pageBytes * suc p) (drop m (b ∷ bs)) (putPage P f p offset (take m (b ∷ bs)) d) (one .framed) (omega arith) in
+      record {
+        most = omega (arith, rest .most);
+        puts = puts-more f position m (pageBytes * suc p) _ (b ∷ bs) d _ _ (omega arith) (rest .most) one (rest .puts);
+      }))
+      (λ e. rw e (record { most = omega arith; puts = puts-none f position (b ∷ bs) d x }))
+
+  -- it stops only where the rest would be NO ROOM: at the start of a page that is not cached and has no slot
+  pub record Stopped (f position : ℕ) (bytes : List ℕ) (w : Written) : Type 0 where
+    pub short : w .count < length bytes
+    pub at-page : 0 < w .count → (position + w .count) % pageBytes ≡ 0
+    pub no-room : hasRoom (w .device) f (position + w .count) (drop (w .count) bytes) ≡ false
+
+  -- n pages are enough
+  pub write-stops : (f n position : ℕ) (bytes : List ℕ) (d : Device) → position + length bytes ≤ pageBytes * (position / pageBytes + n)
+      → (putPages P f n position bytes d .count ≡ length bytes) ⊎ Stopped f position bytes (putPages P f n position bytes d)
+  write-stops f zero position bytes d enough = inl (omega arith)
+  write-stops f (suc n) position [] d enough = inl refl
+  write-stops f (suc n) position (b ∷ bs) d enough =
+      let p : ℕ = position / pageBytes in
+      let offset : ℕ = position % pageBytes in
+      let m : ℕ = pageBytes - position % pageBytes in
+      let lt : length (take m (b ∷ bs)) ≡ min m (length (b ∷ bs)) = length-take m (b ∷ bs) in
+      let ld : length (drop m (b ∷ bs)) ≡ length (b ∷ bs) - m = length-drop m (b ∷ bs) in
+      cases (hasSlot d f (position / pageBytes))
+      (λ e. rw e
+      (elim (write-stops f n (pageBytes * suc p) (drop m (b ∷ bs)) (putPage P f p offset (take m (b ∷ bs)) d) (omega arith)) [
+        | inl h ↦ inl (omega arith)
+        | inr s ↦ inr (further f position m (pageBytes * suc p) (b ∷ bs) _ (omega arith) (omega arith) s)
+      ]))
+      (λ e. rw e (inr (record { short = omega arith; at-page = λ h. absurd (omega arith); no-room = rw add-zero e })))
+    where
+      further : (f a m c : ℕ) (bytes : List ℕ) (w : Written) → c ≡ a + m → c % pageBytes ≡ 0 → Stopped f c (drop m bytes) w
+          → Stopped f a bytes (andMore (length (take m bytes)) w)
+      further f a m c bytes w ec z s =
+          let lt : length (take m bytes) ≡ min m (length bytes) = length-take m bytes in
+          let ld : length (drop m bytes) ≡ length bytes - m = length-drop m bytes in
+          let k : length (take m bytes) ≡ m = omega (arith, s .short) in
+          let same : a + (m + w .count) ≡ c + w .count = omega arith in
+          record {
+            short = omega (arith, s .short);
+            at-page = λ h. rw (k, same) (split-eq (w .count) 0 (λ e. (omega arith)) (λ ne. s .at-page (omega arith)));
+            no-room = rw (k, same, ← drop-drop) (s .no-room);
+          }
+
+  -- with room for its first page a write puts down at least a byte
+  pub write-some : (f n position : ℕ) (bytes : List ℕ) (d : Device) → 0 < length bytes → hasRoom d f position bytes ≡ true
+      → 0 < putPages P f (suc n) position bytes d .count
+  write-some f n position [] d h room = absurd (omega arith)
+  write-some f n position (b ∷ bs) d h room =
+      rw room (omega (arith, length-take (pageBytes - position % pageBytes) (b ∷ bs)))
