@@ -5,3 +5,6 @@ pub mod Sound
 pub mod Admission
 pub mod Writing
 pub mod Truncating
+pub mod Syncing
+pub mod Mounting
+pub mod Looking

@@ -116,10 +116,10 @@ module _ (P : ℕ) (d : Device) (x : Fit P d) (frames : length (d .frames) ≡ f
       split-lt j slotCount
       (λ l.
       let apart : ((g ≡ f) × (i / pageBytes ≡ n / pageBytes) → ⊥)
-          → getD (overwrite (d .frames) cut (zeros tail)) (frameStart k + i % pageBytes) 0 ≡ frameByte d k (i % pageBytes) =
+      → getD (overwrite (d .frames) cut (zeros tail)) (frameStart k + i % pageBytes) 0 ≡ frameByte d k (i % pageBytes) =
       λ ne. frame-other (d .frames) (zeros tail) j k cut (i % pageBytes)
-          (slots-apart (truncated f n d) f (n / pageBytes) g (i / pageBytes) ne (omega (arith, slots-count)) (omega (arith, slots-count)))
-          (omega arith) (omega (arith, tail-length)) (omega arith) in
+      (slots-apart (truncated f n d) f (n / pageBytes) g (i / pageBytes) ne (omega (arith, slots-count)) (omega (arith, slots-count)))
+      (omega arith) (omega (arith, tail-length)) (omega arith) in
       rw (frames-cut l)
       (split-eq g f
       (λ eg.

@@ -12,30 +12,27 @@ use Rattle.cache.specs.Device.{Device, downState, mountedState}
 use Rattle.cache.specs.Admission.{Result, admit, mediaShape, sizesFit}
 use Rattle.cache.specs.Syncing.{underBudget}
 
+-- the TRIMs of n files from file f on: of each that is not in order, to its size
+unfoldable pub trimsFrom : (ℕ → Bool) → (ℕ → ℕ) → ℕ → ℕ → List MediaWrite
+trimsFrom inOrder size zero f = []
+trimsFrom inOrder size (suc n) f = cond (inOrder f) [] (trim f (size f) ∷ []) ++ trimsFrom inOrder size n (suc f)
+
 module _ (P : ℕ) where
   -- every byte of file f from n on is 0
   unfoldable pub zeroFrom : Media → ℕ → ℕ → Bool
   zeroFrom m f n = every (λ b. eqb b 0) (part (m .bytes) (fileStart P f + n) (fileBytes P - n))
 
-  -- the TRIMs of n files from file f on: to the stored size, for each file with a nonzero byte at or past it
-  unfoldable pub mountWrites : Media → ℕ → ℕ → List MediaWrite
-  mountWrites m zero f = []
-  mountWrites m (suc n) f = cond (zeroFrom m f (sizeAt m f)) [] (trim f (sizeAt m f) ∷ []) ++ mountWrites m n (suc f)
-
+  -- for each file with a nonzero byte at or past its stored size, one TRIM to the stored size
   unfoldable pub mountPlan : Media → List MediaWrite
-  mountPlan m = mountWrites m files 0
+  mountPlan m = trimsFrom (λ f. zeroFrom m f (sizeAt m f)) (sizeAt m) files 0
 
   unfoldable pub mount : ℕ → Device → Result Device
   mount budget d =
       admit (mediaShape P d ++ sizesFit P d) d (underBudget P budget (mountPlan (d .media)) (mountedState (d .media .sizes)) d)
 
-  -- the TRIMs of n files from file f on: to 0, for each file with a nonzero byte or a nonzero stored size
-  unfoldable pub formatWrites : Media → ℕ → ℕ → List MediaWrite
-  formatWrites m zero f = []
-  formatWrites m (suc n) f = cond (eqb (sizeAt m f) 0 && zeroFrom m f 0) [] (trim f 0 ∷ []) ++ formatWrites m n (suc f)
-
+  -- for each file with a nonzero byte or a nonzero stored size, one TRIM to 0
   unfoldable pub formatPlan : Media → List MediaWrite
-  formatPlan m = formatWrites m files 0
+  formatPlan m = trimsFrom (λ f. eqb (sizeAt m f) 0 && zeroFrom m f 0) (λ f. 0) files 0
 
   unfoldable pub format : ℕ → Device → Result Device
   format budget d = admit (mediaShape P d) d (underBudget P budget (formatPlan (d .media)) downState d)

@@ -1,0 +1,67 @@
+-- What a look hands back: current bytes, from its position on.
+use mathlib.Core.Path.{_≡_, refl, sym, ap, _∙_}
+use mathlib.Core.Bool.{Bool, true, false, cond}
+use mathlib.Core.List.{List}
+use Prim.Native.Nat.{ℕ, _+_, _-_, _*_, _/_, _%_, _≤_, _<_, min}
+use native.Mathlib.Nat.{le-trans}
+use native.Mathlib.Omega.{arith}
+use lib.Dec.{ltb}
+use lib.ListN.{length, getD, take, drop, length-take, length-drop}
+use borrow.Author.Tests.{lt-ltb, le-ltb}
+use Rattle.memory.specs.Bytes.{part}
+use Rattle.memory.proofs.Cases.{split-lt}
+use Rattle.memory.proofs.Bytes.{getD-part}
+use Rattle.media.specs.Geometry.{files, pageBytes, fileStart}
+use Rattle.cache.specs.Device.{Device, slotCount, frameStart, slotOf, logicalAt, floorAt}
+use Rattle.cache.specs.Current.{frameByte, currentAt}
+use Rattle.cache.specs.Looking.{toPageEnd, lookedAt}
+use Rattle.cache.proofs.Current.{current-cached, current-media}
+
+part-most : (xs : List ℕ) (a n : ℕ) → length (part xs a n) ≤ n
+part-most xs a n = simp length-take (omega arith)
+
+nearer : (position a b : ℕ) → a ≤ b → toPageEnd position a ≤ toPageEnd position b
+nearer position a b h = omega arith
+
+module _ (P : ℕ) (d : Device) (f position : ℕ) where
+  from-frame : slotOf d f (position / pageBytes) < slotCount
+      → lookedAt P f position d ≡ part (d .frames) (frameStart (slotOf d f (position / pageBytes)) + position % pageBytes) (toPageEnd position (logicalAt d f))
+  unfolding lookedAt
+  from-frame l = rw (lt-ltb _ _ l)
+
+  from-media : slotCount ≤ slotOf d f (position / pageBytes)
+      → lookedAt P f position d ≡ part (d .media .bytes) (fileStart P f + position) (toPageEnd position (floorAt d f))
+  unfolding lookedAt
+  from-media l = rw (le-ltb _ _ l)
+
+  -- not more than its count
+  pub looked-most : floorAt d f ≤ logicalAt d f → length (lookedAt P f position d) ≤ toPageEnd position (logicalAt d f)
+  looked-most h =
+      split-lt (slotOf d f (position / pageBytes)) slotCount
+      (λ l. rw (from-frame l) (part-most (d .frames) (frameStart (slotOf d f (position / pageBytes)) + position % pageBytes) (toPageEnd position (logicalAt d f))))
+      (λ l. rw (from-media l)
+      (le-trans (part-most (d .media .bytes) (fileStart P f + position) (toPageEnd position (floorAt d f))) (nearer position (floorAt d f) (logicalAt d f) h)))
+
+  -- each is the current byte
+  pub looked-current : (k : ℕ) → k < length (lookedAt P f position d) → getD (lookedAt P f position d) k 0 ≡ currentAt P d f (position + k)
+  looked-current k h =
+      split-lt (slotOf d f (position / pageBytes)) slotCount
+      (λ l.
+      let s : ℕ = slotOf d f (position / pageBytes) in
+      let a : ℕ = frameStart s + position % pageBytes in
+      let n : ℕ = toPageEnd position (logicalAt d f) in
+      let e : lookedAt P f position d ≡ part (d .frames) a n = from-frame l in
+      let hk : k < n = (le-trans (rw e at h) (part-most (d .frames) a n)) in
+      rw e
+      (getD-part (d .frames) a n k hk
+      ∙ ap (λ (j : ℕ). getD (d .frames) j 0) (omega arith)
+      ∙ sym (current-cached P d f (position + k) (position / pageBytes) (omega arith) l)))
+      (λ l.
+      let a : ℕ = fileStart P f + position in
+      let n : ℕ = toPageEnd position (floorAt d f) in
+      let e : lookedAt P f position d ≡ part (d .media .bytes) a n = from-media l in
+      let hk : k < n = (le-trans (rw e at h) (part-most (d .media .bytes) a n)) in
+      rw e
+      (getD-part (d .media .bytes) a n k hk
+      ∙ ap (λ (j : ℕ). getD (d .media .bytes) j 0) (omega arith)
+      ∙ sym (current-media P d f (position + k) (position / pageBytes) (omega arith) l (omega arith))))
