@@ -45,10 +45,34 @@ module _ {A : Type 0} (before : A) where
   admit-answer [] r = refl
   admit-answer (t ∷ ts) r = cases (t .holds) (λ h. rw h (admit-answer ts r)) (λ h. rw h)
 
+-- an answer is a refusal, or all tests hold
+pub first-by : (Q : Coded → Type 0) (ts : List Test) (a : Coded) → refusing ts ≡ true → ((b : Coded) → eqb (b .number) 0 ≡ false → Q b)
+    → (passed ts ≡ true → Q a) → Q (firstRefusal ts a)
+first-by Q [] a e fails holds = holds refl
+first-by Q (t ∷ ts) a e fails holds =
+    cases (t .holds)
+    (λ h. rw h (first-by Q ts a (refuses-rest (eqb (t .refusal .number) 0) (refusing ts) e) fails (λ p. holds (and-both (t .holds) (passed ts) h p))))
+    (λ h. rw h (fails (t .refusal) (refuses-first (eqb (t .refusal .number) 0) (refusing ts) e)))
+
+-- where every test holds
+pub first-all : (ts : List Test) (a : Coded) → passed ts ≡ true → firstRefusal ts a ≡ a
+first-all [] a e = refl
+first-all (t ∷ ts) a e = rw (and-left (t .holds) (passed ts) e) (first-all ts a (and-right (t .holds) (passed ts) e))
+
 -- where the first tests hold, the others decide
 pub first-after : (ts us : List Test) (a : Coded) → passed ts ≡ true → firstRefusal (ts ++ us) a ≡ firstRefusal us a
 first-after [] us a e = refl
 first-after (t ∷ ts) us a e = rw (and-left (t .holds) (passed ts) e) (first-after ts us a (and-right (t .holds) (passed ts) e))
+
+-- the first of many tests
+pub passed-first : (ts us : List Test) → passed (ts ++ us) ≡ true → passed ts ≡ true
+passed-first [] us e = refl
+passed-first (t ∷ ts) us e =
+    and-both (t .holds) (passed ts) (and-left (t .holds) (passed (ts ++ us)) e) (passed-first ts us (and-right (t .holds) (passed (ts ++ us)) e))
+
+pub passed-rest : (ts us : List Test) → passed (ts ++ us) ≡ true → passed us ≡ true
+passed-rest [] us e = e
+passed-rest (t ∷ ts) us e = passed-rest ts us (and-right (t .holds) (passed (ts ++ us)) e)
 
 passed-at : (ts : List Test) → passed ts ≡ true → (k : ℕ) → k < length ts → (getD ts k (test true SHAPE)) .holds ≡ true
 passed-at ts e k h = every-at (λ t. t .holds) ts (test true SHAPE) e k h
@@ -66,15 +90,19 @@ module _ (P : ℕ) (d : Device) where
     pub file : f < files
     pub in-range : range ≡ true
 
-  pub file-refusing : (f : ℕ) (range : Bool) (us : List Test) → refusing us ≡ true → refusing (fileTests P d f range ++ us) ≡ true
+  pub file-refusing : (f : ℕ) (range : Bool) → refusing (fileTests P d f range) ≡ true
   unfolding mediaShape framesShape sizesFit stateTests
-  file-refusing f range us e = e
+  file-refusing f range = refl
 
-  pub file-admitted : (f : ℕ) (range : Bool) (us : List Test) → passed (fileTests P d f range ++ us) ≡ true → Admitted f range
+  pub file-refusing-more : (f : ℕ) (range : Bool) (us : List Test) → refusing us ≡ true → refusing (fileTests P d f range ++ us) ≡ true
   unfolding mediaShape framesShape sizesFit stateTests
-  file-admitted f range us e =
-      let at : (k : ℕ) → k < 8 → (getD (fileTests P d f range ++ us) k (test true SHAPE)) .holds ≡ true =
-      λ k h. passed-at (fileTests P d f range ++ us) e k (omega arith) in
+  file-refusing-more f range us e = e
+
+  pub file-admitted : (f : ℕ) (range : Bool) → passed (fileTests P d f range) ≡ true → Admitted f range
+  unfolding mediaShape framesShape sizesFit stateTests
+  file-admitted f range e =
+      let at : (k : ℕ) → k < 8 → (getD (fileTests P d f range) k (test true SHAPE)) .holds ≡ true =
+      λ k h. passed-at (fileTests P d f range) e k h in
       record {
         bytes = eqb-true _ _ (at 0 (omega arith));
         sizes = eqb-true _ _ (at 1 (omega arith));
@@ -85,6 +113,9 @@ module _ (P : ℕ) (d : Device) where
         file = ltb-true _ _ (at 6 (omega arith));
         in-range = at 7 (omega arith);
       }
+
+  pub file-admitted-more : (f : ℕ) (range : Bool) (us : List Test) → passed (fileTests P d f range ++ us) ≡ true → Admitted f range
+  file-admitted-more f range us e = file-admitted f range (passed-first (fileTests P d f range) us e)
 
   pub fits-all : Fit P d → every (λ n. leb n (fileBytes P)) (d .media .sizes) ≡ true
   fits-all x =

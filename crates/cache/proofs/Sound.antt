@@ -7,7 +7,7 @@ use Prim.Native.Nat.{ℕ, zero, suc, _<_, _≤_, min}
 use native.Mathlib.Omega.{arith}
 use lib.Dec.{eqb, ltb, leb}
 use lib.ListN.{length, getD, set, length-set, length-map, replicate, List·getD-map}
-use lib.Seq.{getD-set-same, getD-set-other}
+use lib.Seq.{getD-set-same, getD-set-other, set-getD}
 use borrow.Author.Tests.{eqb-true, ltb-true, leb-true, eq-eqb, ne-eqb, lt-ltb, le-leb}
 use borrow.Table.Steps.{cases}
 use Rattle.memory.proofs.Cases.{split-eq}
@@ -192,3 +192,8 @@ module _ (P : ℕ) where
 
         same-floor : (c : ℕ) → getD (set floor f c) f 0 ≡ c
         same-floor c = getD-set-same floor f c 0 (omega (arith, x .floor-count))
+
+    -- the floor stays
+    pub logical-fit : (l : ℕ) → getD floor f 0 ≤ l → l ≤ fileBytes P → SizesFit (set logical f l) floor stored
+    logical-fit l h k =
+        rw (set-getD floor f 0) at (sizes-fit l (getD floor f 0) h k (x .floor-stored f hf))

@@ -5,10 +5,10 @@ use mathlib.Core.Bool.{Bool, true, false, cond}
 use mathlib.Core.List.{List, [], _∷_}
 use Prim.Native.Nat.{ℕ, zero, suc, _+_, _-_, _*_, _/_, _%_, _≤_, _<_, min, max}
 use native.Mathlib.Omega.{arith}
-use lib.Dec.{ltb}
+use lib.Dec.{ltb, eqb}
 use lib.ListN.{length, getD, set, take, drop, length-set, length-take, length-drop, length-replicate}
 use native.Mathlib.Nat.{add-zero}
-use lib.Seq.{getD-take, getD-drop, drop-drop}
+use lib.Seq.{getD-take, getD-drop, drop-drop, getD-set-same, getD-set-other}
 use borrow.Author.Tests.{ltb-true, ltb-false, lt-ltb, le-ltb, eq-eqb, ne-eqb}
 use borrow.Table.Steps.{cases}
 use Rattle.memory.specs.Bytes.{zeros, part, overwrite}
@@ -19,13 +19,13 @@ use Rattle.media.specs.Write.{byteAt}
 use Rattle.media.proofs.Geometry.{file-end, page-end}
 use Rattle.cache.specs.declared.Slot.{Slot}
 use Rattle.cache.specs.Scan.{firstIndex}
-use Rattle.cache.specs.Device.{Device, slotCount, framesBytes, frameStart, freeSlot, isFree, holds, slotOf, isCached, firstFree, floorAt}
+use Rattle.cache.specs.Device.{Device, slotCount, framesBytes, frameStart, freeSlot, isFree, holds, slotOf, isCached, firstFree, logicalAt, floorAt}
 use Rattle.cache.specs.Current.{frameByte, currentAt}
-use Rattle.cache.specs.Writing.{hasSlot, blankPage, filledPage, cachePage, patchPage, putPage, Written, andMore, putPages, hasRoom}
+use Rattle.cache.specs.Writing.{hasSlot, blankPage, filledPage, cachePage, patchPage, putPage, Written, andMore, putPages, grown, hasRoom}
 use Rattle.cache.proofs.Scan.{first-set, first-set-here}
 use Rattle.cache.proofs.Device.{holds-own, holds-one, free-holds, slots-apart, first-free-was-free, free-apart, frame-other}
 use Rattle.cache.proofs.Current.{current-cached, current-media, current-zero, current-same}
-use Rattle.cache.proofs.Sound.{SlotsFit, take-fit}
+use Rattle.cache.proofs.Sound.{SlotsFit, SizesFit, Fit, take-fit, logical-fit}
 
 module _ (P : ℕ) where
   -- what a page step needs of a device
@@ -343,8 +343,92 @@ module _ (P : ℕ) where
           }
 
   -- with room for its first page a write puts down at least a byte
-  pub write-some : (f n position : ℕ) (bytes : List ℕ) (d : Device) → 0 < length bytes → hasRoom d f position bytes ≡ true
-      → 0 < putPages P f (suc n) position bytes d .count
-  write-some f n position [] d h room = absurd (omega arith)
-  write-some f n position (b ∷ bs) d h room =
+  pub write-some : (f n position : ℕ) (bytes : List ℕ) (d : Device) → 0 < n → 0 < length bytes → hasRoom d f position bytes ≡ true
+      → 0 < putPages P f n position bytes d .count
+  write-some f zero position bytes d h l room = absurd (omega arith)
+  write-some f (suc n) position [] d h l room = absurd (omega arith)
+  write-some f (suc n) position (b ∷ bs) d h l room =
       rw room (omega (arith, length-take (pageBytes - position % pageBytes) (b ∷ bs)))
+
+  -- ---- the whole write
+
+  -- what a write that puts down n bytes leaves
+  pub record Leaves (f position n : ℕ) (bytes : List ℕ) (d c : Device) : Type 0 where
+    pub media : c .media ≡ d .media
+    pub mounted : c .cache .mounted ≡ d .cache .mounted
+    pub fit : Fit P c
+    pub frames : length (c .frames) ≡ framesBytes
+    pub floor : (g : ℕ) → floorAt c g ≡ floorAt d g
+    pub logical : logicalAt c f ≡ cond (eqb n 0) (logicalAt d f) (max (logicalAt d f) (position + n))
+    pub logical-other : (g : ℕ) → g ≢ f → logicalAt c g ≡ logicalAt d g
+    pub inside : (i : ℕ) → position ≤ i → i < position + n → currentAt P c f i ≡ getD bytes (i - position) 0
+    pub below : (i : ℕ) → i < position → currentAt P c f i ≡ currentAt P d f i
+    pub above : (i : ℕ) → position + n ≤ i → currentAt P c f i ≡ currentAt P d f i
+    pub others : (g i : ℕ) → g ≢ f → currentAt P c g i ≡ currentAt P d g i
+
+  module _ (d : Device) (x : Fit P d) (f position : ℕ) (bytes : List ℕ) (w : Written) (hf : f < files) (wrote : Wrote f position bytes d w)
+      (fits : position + length bytes ≤ fileBytes P) where
+    -- the sizes of the device that the pages were put into
+    sizes-before : SizesFit P (w .device .cache .logical) (w .device .cache .floor) (w .device .media .sizes)
+    sizes-before = let s = wrote .puts .same in rw (s .media, s .logical, s .floor) (x .sizes)
+
+    grown-leaves : Leaves f position (w .count) bytes d (grown f position w)
+    unfolding grown currentAt
+    grown-leaves =
+        let p = wrote .puts in
+        let s = p .same in
+        let z = sizes-before in
+        let l : logicalAt (w .device) f ≡ logicalAt d f = ap (λ (k : List ℕ). getD k f 0) (s .logical) in
+        split-eq (w .count) 0
+        (λ e. rw (eq-eqb (w .count) 0 e)
+        (record {
+          media = s .media;
+          mounted = s .mounted;
+          fit = record { bytes = p .framed .bytes; slots = p .framed .slots; sizes = z };
+          frames = p .framed .frames;
+          floor = λ g. ap (λ (k : List ℕ). getD k g 0) (s .floor);
+          logical = rw (eq-eqb (w .count) 0 e) l;
+          logical-other = λ g ne. ap (λ (k : List ℕ). getD k g 0) (s .logical);
+          inside = p .inside;
+          below = p .below;
+          above = p .above;
+          others = p .others;
+        }))
+        (λ ne.
+        let m : ℕ = max (logicalAt (w .device) f) (position + w .count) in
+        let hl : f < length (w .device .cache .logical) = omega (arith, z .logical-count) in
+        rw (ne-eqb (w .count) 0 ne)
+        (record {
+          media = s .media;
+          mounted = s .mounted;
+          fit = record {
+            bytes = p .framed .bytes;
+            slots = p .framed .slots;
+            sizes = logical-fit P _ _ _ z f hf m (omega (arith, z .floor-logical f hf)) (omega (arith, z .logical-fits f hf, wrote .most));
+          };
+          frames = p .framed .frames;
+          floor = λ g. ap (λ (k : List ℕ). getD k g 0) (s .floor);
+          logical =
+              rw (ne-eqb (w .count) 0 ne)
+              (getD-set-same (w .device .cache .logical) f m 0 hl ∙ ap (λ (k : ℕ). max k (position + w .count)) l);
+          logical-other = λ g d. getD-set-other (w .device .cache .logical) f g m 0 d ∙ ap (λ (k : List ℕ). getD k g 0) (s .logical);
+          inside = p .inside;
+          below = p .below;
+          above = p .above;
+          others = p .others;
+        }))
+
+  -- a write that is admitted
+  pub write-leaves : (d : Device) → Fit P d → length (d .frames) ≡ framesBytes → (f position : ℕ) (bytes : List ℕ) → f < files
+      → position + length bytes ≤ fileBytes P
+      → (putPages P f P position bytes d .count ≤ length bytes)
+      × Leaves f position (putPages P f P position bytes d .count) bytes d (grown f position (putPages P f P position bytes d))
+  write-leaves d x frames f position bytes hf fits =
+      let w = put-pages f hf P position bytes d (record { bytes = x .bytes; frames = frames; slots = x .slots }) fits in
+      (w .most, grown-leaves d x f position bytes (putPages P f P position bytes d) hf w fits)
+
+  -- the size has no part in whether there is room
+  pub grown-room : (f position : ℕ) (w : Written) (g at : ℕ) (bytes : List ℕ) → hasRoom (grown f position w) g at bytes ≡ hasRoom (w .device) g at bytes
+  unfolding grown
+  grown-room f position w g at [] = refl
+  grown-room f position w g at (b ∷ bs) = cases (eqb (w .count) 0) (λ e. rw e) (λ e. rw e)

@@ -1,1 +1,10 @@
+pub mod ModelFile
+pub mod Run
+pub mod Invariant
+pub mod Writes
+pub mod Truncates
+pub mod Syncs
+pub mod Mounts
+pub mod Posix
+pub mod Claims
 pub mod Edges

@@ -1,0 +1,248 @@
+-- What each call gives where the invariant holds.
+use mathlib.Core.Path.{_≡_, refl, sym, ap, _∙_}
+use mathlib.Core.Logic.{_≢_, _⊎_, inl, inr}
+use mathlib.Core.Bool.{Bool, true, false, cond, _&&_, false≢true}
+use mathlib.Core.List.{List, [], _∷_, _++_}
+use Prim.Native.Nat.{ℕ, _+_, _-_, _*_, _/_, _%_, _≤_, _<_, min}
+use native.Mathlib.Omega.{arith}
+use lib.Dec.{eqb, leb, ltb}
+use lib.ListN.{length, getD, take, drop, length-take, length-drop}
+use lib.Seq.{ext-getD}
+use borrow.Author.Tests.{eqb-true, leb-true, eq-eqb, le-leb}
+use Rattle.answer.specs.Coded.{Coded, done, CUT, NO-ROOM}
+use Rattle.answer.specs.Admission.{Test, test, firstRefusal, ifDone}
+use Rattle.memory.specs.Bytes.{part, overwrite}
+use Rattle.memory.proofs.Cases.{split-lt, split-eq}
+use Rattle.memory.proofs.Bytes.{length-part, getD-part}
+use Rattle.media.specs.Geometry.{files, pageBytes, fileBytes}
+use Rattle.media.specs.Write.{sizeAt}
+use Rattle.cache.specs.Device.{Device, framesBytes, logicalAt, floorAt}
+use Rattle.cache.specs.Current.{currentAt, currentBytes}
+use Rattle.cache.specs.Admission.{Result, give, admit, fileTests, mediaShape, sizesFit}
+use Rattle.cache.specs.Reading.{readCount, read}
+use Rattle.cache.specs.Writing.{Written, putPages, grown, hasRoom, write}
+use Rattle.cache.specs.Truncating.{truncated, truncate}
+use Rattle.cache.specs.Syncing.{syncPlan, syncedState, underBudget, sync}
+use Rattle.cache.specs.Mounting.{mountPlan, mount}
+use Rattle.cache.specs.Looking.{toPageEnd, lookCount, lookedAt, look}
+use Rattle.cache.proofs.Scan.{and-left, and-right}
+use Rattle.cache.proofs.Current.{length-current, current-at}
+use Rattle.cache.proofs.Sound.{Fit}
+use Rattle.cache.proofs.Admission.{passed, admit-by, admit-answer, first-by, first-all, first-after, passed-rest, file-refusing, file-refusing-more, file-admitted, file-admitted-more, file-passes, mount-passes}
+use Rattle.cache.proofs.Writing.{Stopped, write-leaves, write-stops, write-some, grown-room}
+use Rattle.cache.proofs.Syncing.{budget-by, budget-answer, syncedDevice, sync-done, synced-fit}
+use Rattle.cache.proofs.Looking.{looked-most, looked-current}
+use Rattle.model.specs.ModelFile.{ModelFile}
+use Rattle.model.specs.Run.{Files}
+use Rattle.model.specs.Claims.{IsDone}
+use Rattle.model.specs.Store.{storeMedia, storeReady}
+use Rattle.model.proofs.Invariant.{Mounted, Invariant, on-media-is}
+use Rattle.model.proofs.Syncs.{ready}
+use Rattle.model.proofs.Mounts.{not-done}
+
+module _ (P : ℕ) (d : Device) (fs : Files) (inv : Invariant P d fs) where
+  -- ---- calls that are accepted
+
+  module _ (r : storeReady d ≡ true) (f : ℕ) (hf : f < files) where
+    is-mounted : d .cache .mounted ≡ 1
+    is-mounted = eqb-true _ _ (and-left (eqb (d .cache .mounted) 1) _ r)
+
+    has-frames : length (d .frames) ≡ framesBytes
+    has-frames = eqb-true _ _ (and-right (eqb (d .cache .mounted) 1) _ r)
+
+    passes : (range : Bool) → range ≡ true → passed (fileTests P d f range) ≡ true
+    passes range h = file-passes P d f range (inv .fit is-mounted) is-mounted has-frames hf h
+
+    pub read-accepted : (position : ℕ) (buffer : List ℕ) → position ≤ fileBytes P → (n : ℕ) × (read P f position buffer d .answer ≡ done n)
+    unfolding read
+    read-accepted position buffer h = (
+      _,
+      admit-answer buffer (fileTests P d f (leb position (fileBytes P))) _
+          ∙ first-all (fileTests P d f (leb position (fileBytes P))) _ (passes _ (le-leb _ _ h)),
+    )
+
+    pub look-accepted : (position : ℕ) → position ≤ fileBytes P → (n : ℕ) × (lookCount P f position d ≡ done n)
+    unfolding lookCount
+    look-accepted position h = (_, first-all (fileTests P d f (leb position (fileBytes P))) _ (passes _ (le-leb _ _ h)))
+
+    pub write-accepted : (position : ℕ) (bytes : List ℕ) → position + length bytes ≤ fileBytes P
+        → (n : ℕ) × (write P f position bytes d .answer ≡ firstRefusal (test (hasRoom d f position bytes) NO-ROOM ∷ []) (done n))
+    unfolding write
+    write-accepted position bytes h =
+        let ts : List Test = fileTests P d f (leb (position + length bytes) (fileBytes P)) in
+        let us : List Test = test (hasRoom d f position bytes) NO-ROOM ∷ [] in
+        (_, admit-answer d (ts ++ us) _ ∙ first-after ts us _ (passes _ (le-leb _ _ h)))
+
+    pub truncate-accepted : (n : ℕ) → n ≤ fileBytes P → (k : ℕ) × (truncate P f n d .answer ≡ done k)
+    unfolding truncate
+    truncate-accepted n h = (
+      _,
+      admit-answer d (fileTests P d f (leb n (fileBytes P))) _ ∙ first-all (fileTests P d f (leb n (fileBytes P))) _ (passes _ (le-leb _ _ h)),
+    )
+
+    pub sync-accepted : (budget : ℕ)
+        → (n : ℕ) × (sync P f budget d .answer ≡ firstRefusal (test (leb (length (syncPlan P d f)) budget) (CUT budget) ∷ []) (done n))
+    unfolding sync
+    sync-accepted budget = (
+      _,
+      admit-answer d (fileTests P d f true) _
+          ∙ first-all (fileTests P d f true) _ (passes true refl)
+          ∙ budget-answer P budget (syncPlan P d f) (syncedState d f) d,
+    )
+
+  pub mount-accepted : (budget : ℕ)
+      → (n : ℕ) × (mount P budget d .answer ≡ firstRefusal (test (leb (length (mountPlan P (d .media))) budget) (CUT budget) ∷ []) (done n))
+  unfolding mount
+  mount-accepted budget = (
+    _,
+    admit-answer d (mediaShape P d ++ sizesFit P d) _
+        ∙ first-all (mediaShape P d ++ sizesFit P d) _ (mount-passes P d (inv .mountable))
+        ∙ budget-answer P budget (mountPlan P (d .media)) _ d,
+  )
+
+  -- ---- what they give
+
+  module _ (f : ℕ) (hf : f < files) (up : d .cache .mounted ≡ 1) where
+    file : List ℕ
+    file = fs f .current
+
+    x : Mounted P d f (fs f)
+    x = inv .mounted up f hf
+
+    fits : logicalAt d f ≤ fileBytes P
+    fits = inv .fit up .sizes .logical-fits f hf
+
+    size-is : length file ≡ logicalAt d f
+    unfolding file x
+    size-is = x .current-size
+
+    byte-is : (i : ℕ) → i < fileBytes P → getD file i 0 ≡ currentAt P d f i
+    unfolding file x
+    byte-is = x .current-is
+
+    -- a run of current bytes is a part of the model's file
+    current-part : (position n : ℕ) → n ≤ logicalAt d f - position → currentBytes P d f position n ≡ part file position n
+    current-part position n h =
+        split-eq n 0
+        (λ e. rw e)
+        (λ ne.
+        let lc : length (currentBytes P d f position n) ≡ n = length-current P d f position n in
+        ext-getD 0 (currentBytes P d f position n) (part file position n)
+        (lc ∙ sym (length-part file position n (omega (arith, size-is))))
+        (λ i l.
+        let l′ : i < n = rw lc at l in
+        current-at P d f position n i l′
+        ∙ sym (byte-is (position + i) (omega (arith, fits)))
+        ∙ sym (getD-part file position n i l′)))
+
+    -- what a look hands back is a part of it too
+    looked-part : (position : ℕ) → lookedAt P f position d ≡ part file position (length (lookedAt P f position d))
+    looked-part position =
+        let n : ℕ = length (lookedAt P f position d) in
+        let most : n ≤ toPageEnd position (logicalAt d f) = looked-most P d f position (inv .fit up .sizes .floor-logical f hf) in
+        let short : n ≤ logicalAt d f - position = omega arith in
+        split-eq n 0
+        (λ e. rw e (none (lookedAt P f position d) e))
+        (λ ne.
+        ext-getD 0 (lookedAt P f position d) (part file position n)
+        (sym (length-part file position n (omega (arith, size-is))))
+        (λ i l.
+        looked-current P d f position i l
+        ∙ sym (byte-is (position + i) (omega (arith, fits)))
+        ∙ sym (getD-part file position n i l)))
+      where
+        none : (xs : List ℕ) → length xs ≡ 0 → xs ≡ []
+        none [] e = refl
+        none (y ∷ xs) e = absurd (omega arith)
+
+  pub read-posix : (f position : ℕ) (buffer : List ℕ) →
+      let r : Result (List ℕ) = read P f position buffer d in
+      (IsDone (r .answer) → r .answer .count ≡ min (length buffer) (length (fs f .current) - position))
+      × (r .left ≡ ifDone (r .answer) (overwrite buffer 0 (part (fs f .current) position (r .answer .count))) buffer)
+  unfolding read file
+  read-posix f position buffer =
+      admit-by buffer
+      (λ r. (IsDone (r .answer) → r .answer .count ≡ min (length buffer) (length (fs f .current) - position))
+      × (r .left ≡ ifDone (r .answer) (overwrite buffer 0 (part (fs f .current) position (r .answer .count))) buffer))
+      (fileTests P d f (leb position (fileBytes P))) _ (file-refusing P d f (leb position (fileBytes P)))
+      (λ a e. (λ z. absurd (not-done a e z), rw e))
+      (λ e.
+      let ad = file-admitted P d f (leb position (fileBytes P)) e in (
+        λ _. rw (size-is f (ad .file) (ad .mounted)),
+        ap (overwrite buffer 0) (current-part f (ad .file) (ad .mounted) position (readCount d f position (length buffer)) (omega arith)),
+      ))
+
+  pub look-posix : (f position : ℕ) →
+      let a : Coded = lookCount P f position d in
+      let output : List ℕ = look P f position d in
+      (IsDone a → a .count ≡ min (pageBytes - position % pageBytes) (length (fs f .current) - position))
+      × (length output ≤ a .count)
+      × (output ≡ part (fs f .current) position (length output))
+  unfolding lookCount look file
+  look-posix f position =
+      first-by
+      (λ a. (IsDone a → a .count ≡ min (pageBytes - position % pageBytes) (length (fs f .current) - position))
+      × (length (ifDone a (lookedAt P f position d) []) ≤ a .count)
+      × (ifDone a (lookedAt P f position d) [] ≡ part (fs f .current) position (length (ifDone a (lookedAt P f position d) []))))
+      (fileTests P d f (leb position (fileBytes P))) _ (file-refusing P d f (leb position (fileBytes P)))
+      (λ a e. (λ z. absurd (not-done a e z), rw e (omega arith), rw e))
+      (λ e.
+      let ad = file-admitted P d f (leb position (fileBytes P)) e in (
+        λ _. rw (size-is f (ad .file) (ad .mounted)),
+        looked-most P d f position (inv .fit (ad .mounted) .sizes .floor-logical f (ad .file)),
+        looked-part f (ad .file) (ad .mounted) position,
+      ))
+
+  pub write-posix : (f position : ℕ) (bytes : List ℕ) →
+      let r : Result Device = write P f position bytes d in
+      let n : ℕ = r .answer .count in
+      IsDone (r .answer) →
+      (n ≡ length bytes)
+      ⊎ ((0 < n) × (n < length bytes) × ((position + n) % pageBytes ≡ 0)
+      × (firstRefusal (test (hasRoom (r .left) f (position + n) (drop n bytes)) NO-ROOM ∷ []) (done 0) ≡ NO-ROOM))
+  unfolding write
+  write-posix f position bytes =
+      let range : Bool = leb (position + length bytes) (fileBytes P) in
+      let us : List Test = test (hasRoom d f position bytes) NO-ROOM ∷ [] in
+      admit-by d
+      (λ r. IsDone (r .answer) →
+      (r .answer .count ≡ length bytes)
+      ⊎ ((0 < r .answer .count) × (r .answer .count < length bytes) × ((position + r .answer .count) % pageBytes ≡ 0)
+      × (firstRefusal (test (hasRoom (r .left) f (position + r .answer .count) (drop (r .answer .count) bytes)) NO-ROOM ∷ []) (done 0) ≡ NO-ROOM)))
+      (fileTests P d f range ++ us) _ (file-refusing-more P d f range us refl)
+      (λ a e z. absurd (not-done a e z))
+      (λ e z.
+      let ad = file-admitted-more P d f range us e in
+      let fits : position + length bytes ≤ fileBytes P = leb-true _ _ (ad .in-range) in
+      let room : hasRoom d f position bytes ≡ true = and-left _ true (passed-rest (fileTests P d f range) us e) in
+      elim (write-stops P f P position bytes d (omega arith)) [
+        | inl h ↦ inl h
+        | inr s ↦
+            (let some : 0 < putPages P f P position bytes d .count = write-some P f P position bytes d (omega (arith, s .short)) (omega (arith, s .short)) room in
+            inr (some, s .short, s .at-page some, rw (grown-room P f position (putPages P f P position bytes d), s .no-room)))
+      ])
+
+  pub truncate-posix : (f n : ℕ) → IsDone (truncate P f n d .answer) → truncate P f n d .answer .count ≡ 0
+  unfolding truncate
+  truncate-posix f n =
+      admit-by d (λ r. IsDone (r .answer) → r .answer .count ≡ 0) (fileTests P d f (leb n (fileBytes P))) _ (file-refusing P d f (leb n (fileBytes P)))
+      (λ a e z. absurd (not-done a e z)) (λ e z. refl)
+
+  pub sync-posix : (f budget : ℕ) → IsDone (sync P f budget d .answer) → storeMedia P (sync P f budget d .left) f ≡ fs f .current
+  unfolding sync
+  sync-posix f budget =
+      let Q : Result Device → Type 0 = λ r. IsDone (r .answer) → storeMedia P (r .left) f ≡ fs f .current in
+      admit-by d Q (fileTests P d f true) _ (file-refusing P d f true)
+      (λ a e z. absurd (not-done a e z))
+      (λ e.
+      let ad = file-admitted P d f true e in
+      let r = ready P d fs f inv (ad .mounted) (ad .frames) (ad .file) in
+      let y : Mounted P d f (fs f) = inv .mounted (ad .mounted) f (ad .file) in
+      budget-by P budget (syncPlan P d f) (syncedState d f) d Q
+      (λ l z. absurd (not-done (CUT budget) refl z))
+      (λ l z.
+      let s = sync-done P d f r in
+      let fit : Fit P (syncedDevice P d f) = synced-fit P d f r in
+      sym
+      (on-media-is P (syncedDevice P d f) f (fit .bytes) (ad .file) (fit .sizes .stored-fits f (ad .file)) (fs f .current) (y .current-size ∙ sym (s .stored))
+      (λ i h. let hi : i < fileBytes P = omega (arith, fit .sizes .stored-fits f (ad .file)) in y .current-is i hi ∙ sym (s .byte i hi)))))
