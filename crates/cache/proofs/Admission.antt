@@ -8,9 +8,8 @@ use lib.Dec.{eqb, leb}
 use lib.ListN.{length, getD}
 use borrow.Author.Tests.{eqb-true, ltb-true, leb-true, eq-eqb, lt-ltb, le-leb}
 use borrow.Table.Steps.{cases}
-use Rattle.answer.specs.Coded.{Coded, SHAPE}
+use Rattle.answer.specs.Coded.{Coded, refused, SHAPE}
 use Rattle.answer.specs.Admission.{Test, test, firstRefusal}
-use Rattle.answer.proofs.Admission.{refusing}
 use Rattle.media.specs.Geometry.{files, fileBytes, mediaBytes}
 use Rattle.cache.specs.Scan.{every}
 use Rattle.cache.specs.Device.{Device, framesBytes}
@@ -23,22 +22,20 @@ use Rattle.cache.proofs.Sound.{Fit, fit-sound}
 abbrev pub passed : List Test → Bool
 passed ts = every (λ t. t .holds) ts
 
-refuses-first : (b r : Bool) → cond b false r ≡ true → b ≡ false
-refuses-first true r e = absurd (false≢true e)
-refuses-first false r e = refl
-
-refuses-rest : (b r : Bool) → cond b false r ≡ true → r ≡ true
-refuses-rest true r e = absurd (false≢true e)
-refuses-rest false r e = e
+-- the refusals of a list are among the eight that change nothing
+abbrev pub Eight : List Test → Type 0
+Eight [] = Unit {0}
+Eight (t ∷ ts) = ((k : ℕ) × (0 < k) × (k < 9) × (t .refusal ≡ refused k)) × Eight ts
 
 module _ {A : Type 0} (before : A) where
-  pub admit-by : (Q : Result A → Type 0) (ts : List Test) (r : Result A) → refusing ts ≡ true
-      → ((a : Coded) → eqb (a .number) 0 ≡ false → Q (give a before)) → (passed ts ≡ true → Q r) → Q (admit ts before r)
+  -- a call is refused with everything as it came, or all its tests hold
+  pub admit-by : (Q : Result A → Type 0) (ts : List Test) (r : Result A) → Eight ts
+      → ((k : ℕ) → 0 < k → k < 9 → Q (give (refused k) before)) → (passed ts ≡ true → Q r) → Q (admit ts before r)
   admit-by Q [] r e fails holds = holds refl
   admit-by Q (t ∷ ts) r e fails holds =
       cases (t .holds)
-      (λ h. rw h (admit-by Q ts r (refuses-rest (eqb (t .refusal .number) 0) (refusing ts) e) fails (λ p. holds (and-both (t .holds) (passed ts) h p))))
-      (λ h. rw h (fails (t .refusal) (refuses-first (eqb (t .refusal .number) 0) (refusing ts) e)))
+      (λ h. rw h (admit-by Q ts r (e .1) fails (λ p. holds (and-both (t .holds) (passed ts) h p))))
+      (λ h. rw (h, e .0 .3) (fails (e .0 .0) (e .0 .1) (e .0 .2)))
 
   -- the answer is by the first test that fails
   pub admit-answer : (ts : List Test) (r : Result A) → admit ts before r .answer ≡ firstRefusal ts (r .answer)
@@ -46,13 +43,13 @@ module _ {A : Type 0} (before : A) where
   admit-answer (t ∷ ts) r = cases (t .holds) (λ h. rw h (admit-answer ts r)) (λ h. rw h)
 
 -- an answer is a refusal, or all tests hold
-pub first-by : (Q : Coded → Type 0) (ts : List Test) (a : Coded) → refusing ts ≡ true → ((b : Coded) → eqb (b .number) 0 ≡ false → Q b)
-    → (passed ts ≡ true → Q a) → Q (firstRefusal ts a)
+pub first-by : (Q : Coded → Type 0) (ts : List Test) (a : Coded) → Eight ts → ((k : ℕ) → 0 < k → k < 9 → Q (refused k)) → (passed ts ≡ true → Q a)
+    → Q (firstRefusal ts a)
 first-by Q [] a e fails holds = holds refl
 first-by Q (t ∷ ts) a e fails holds =
     cases (t .holds)
-    (λ h. rw h (first-by Q ts a (refuses-rest (eqb (t .refusal .number) 0) (refusing ts) e) fails (λ p. holds (and-both (t .holds) (passed ts) h p))))
-    (λ h. rw h (fails (t .refusal) (refuses-first (eqb (t .refusal .number) 0) (refusing ts) e)))
+    (λ h. rw h (first-by Q ts a (e .1) fails (λ p. holds (and-both (t .holds) (passed ts) h p))))
+    (λ h. rw (h, e .0 .3) (fails (e .0 .0) (e .0 .1) (e .0 .2)))
 
 -- where every test holds
 pub first-all : (ts : List Test) (a : Coded) → passed ts ≡ true → firstRefusal ts a ≡ a
@@ -90,13 +87,13 @@ module _ (P : ℕ) (d : Device) where
     pub file : f < files
     pub in-range : range ≡ true
 
-  pub file-refusing : (f : ℕ) (range : Bool) → refusing (fileTests P d f range) ≡ true
+  pub file-eight : (f : ℕ) (range : Bool) (us : List Test) → Eight us → Eight (fileTests P d f range ++ us)
   unfolding mediaShape framesShape sizesFit stateTests
-  file-refusing f range = refl
+  file-eight f range us e = ((2, omega arith, omega arith, refl), ((2, omega arith, omega arith, refl), ((2, omega arith, omega arith, refl), ((3, omega arith, omega arith, refl), ((4, omega arith, omega arith, refl), ((5, omega arith, omega arith, refl), ((6, omega arith, omega arith, refl), ((7, omega arith, omega arith, refl), e))))))))
 
-  pub file-refusing-more : (f : ℕ) (range : Bool) (us : List Test) → refusing us ≡ true → refusing (fileTests P d f range ++ us) ≡ true
+  pub file-alone : (f : ℕ) (range : Bool) → Eight (fileTests P d f range)
   unfolding mediaShape framesShape sizesFit stateTests
-  file-refusing-more f range us e = e
+  file-alone f range = file-eight f range [] tt
 
   pub file-admitted : (f : ℕ) (range : Bool) → passed (fileTests P d f range) ≡ true → Admitted f range
   unfolding mediaShape framesShape sizesFit stateTests
@@ -135,9 +132,9 @@ module _ (P : ℕ) (d : Device) where
     pub sizes : length (d .media .sizes) ≡ files
     pub fit : (f : ℕ) → f < files → getD (d .media .sizes) f 0 ≤ fileBytes P
 
-  pub mount-refusing : refusing (mediaShape P d ++ sizesFit P d) ≡ true
+  pub mount-eight : Eight (mediaShape P d ++ sizesFit P d)
   unfolding mediaShape sizesFit
-  mount-refusing = refl
+  mount-eight = ((2, omega arith, omega arith, refl), ((2, omega arith, omega arith, refl), ((3, omega arith, omega arith, refl), tt)))
 
   pub mount-admitted : passed (mediaShape P d ++ sizesFit P d) ≡ true → Mountable
   unfolding mediaShape sizesFit

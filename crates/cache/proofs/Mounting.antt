@@ -11,7 +11,7 @@ use lib.ListN.{length, getD, take}
 use lib.Seq.{take-nil, take-length, ext-getD}
 use borrow.Author.Tests.{eqb-true, eq-eqb, ne-eqb, le-leb, lt-leb}
 use borrow.Table.Steps.{cases}
-use Rattle.answer.specs.Coded.{Coded, done, CUT}
+use Rattle.answer.specs.Coded.{refused, done, CUT}
 use Rattle.memory.specs.Bytes.{part}
 use Rattle.memory.proofs.Cases.{split-lt, split-eq}
 use Rattle.memory.proofs.Bytes.{length-part, getD-part}
@@ -26,7 +26,7 @@ use Rattle.cache.specs.Admission.{Result, give, mediaShape, sizesFit}
 use Rattle.cache.specs.Syncing.{underBudget}
 use Rattle.cache.specs.Mounting.{trimsFrom, zeroFrom, mountPlan, mount, formatPlan, format}
 use Rattle.cache.proofs.Scan.{and-left, and-right, every-at}
-use Rattle.cache.proofs.Admission.{admit-by, Mountable, mount-refusing, mount-admitted}
+use Rattle.cache.proofs.Admission.{admit-by, Mountable, mount-eight, mount-admitted}
 use Rattle.cache.proofs.Syncing.{budget-by}
 
 module _ (P : ℕ) where
@@ -259,13 +259,13 @@ module _ (P : ℕ) where
 
   -- a mount is refused, cut or done
   pub mount-by : (Q : Result Device → Type 0) (budget : ℕ) (d : Device)
-      → ((a : Coded) → eqb (a .number) 0 ≡ false → Q (give a d))
+      → ((k : ℕ) → 0 < k → k < 9 → Q (give (refused k) d))
       → ((c : Media) → Left d c → Q (give (CUT budget) (deviceOf c (d .frames) downState)))
       → ((c : Media) (n : ℕ) → Left d c → Clean d c → Q (give (done n) (deviceOf c (d .frames) (mountedState (d .media .sizes)))))
       → Q (mount P budget d)
   unfolding mount
-  mount-by Q budget d refused cut finished =
-      admit-by d Q (mediaShape P d ++ sizesFit P d) _ (mount-refusing P d) refused (λ e.
+  mount-by Q budget d fails cut finished =
+      admit-by d Q (mediaShape P d ++ sizesFit P d) _ (mount-eight P d) fails (λ e.
       let x = mount-admitted P d e in
       budget-by P budget (mountPlan P (d .media)) (mountedState (d .media .sizes)) d Q
       (λ l. cut _ (mount-cut d x budget))

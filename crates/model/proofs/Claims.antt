@@ -21,7 +21,7 @@ use Rattle.model.proofs.Writes.{keeps-write}
 use Rattle.model.proofs.Truncates.{keeps-truncate}
 use Rattle.model.proofs.Syncs.{zero-not-one, keeps-sync}
 use Rattle.model.proofs.Mounts.{keeps-mount, starts, finds}
-use Rattle.model.proofs.Posix.{read-accepted, look-accepted, write-accepted, truncate-accepted, sync-accepted, mount-accepted, read-posix, look-posix, write-posix, truncate-posix, sync-posix}
+use Rattle.model.proofs.Posix.{read-accepted, look-accepted, write-accepted, truncate-accepted, sync-accepted, mount-accepted, read-posix, look-posix, write-posix, truncate-posix, sync-posix, write-mounted, truncate-mounted, sync-mounted, mount-mounted}
 
 module _ (P : ℕ) where
   abbrev Holds : World (store P) → Type 0
@@ -47,26 +47,32 @@ module _ (P : ℕ) where
 
   served : (w : World (store P)) (e : Event (store P)) → Holds w → Served (store P) w e
   served w (call (read f position buffer)) inv = (
-    λ h. read-accepted P (w .device) (w .files) inv (h .0) f (h .1) position buffer (h .2),
+    λ h. read-accepted P (w .device) (w .files) inv (h .0) (h .1) f (h .2) position buffer (h .3),
+    refl,
     read-posix P (w .device) (w .files) inv f position buffer,
   )
   served w (call (look f position)) inv = (
-    λ h. look-accepted P (w .device) (w .files) inv (h .0) f (h .1) position (h .2),
+    λ h. look-accepted P (w .device) (w .files) inv (h .0) (h .1) f (h .2) position (h .3),
+    refl,
     look-posix P (w .device) (w .files) inv f position,
   )
   served w (call (write f position bytes)) inv = (
-    λ h. write-accepted P (w .device) (w .files) inv (h .0) f (h .1) position bytes (h .2),
+    λ h. write-accepted P (w .device) (w .files) inv (h .0) (h .1) f (h .2) position bytes (h .3),
+    write-mounted P (w .device) (w .files) inv f position bytes,
     write-posix P (w .device) (w .files) inv f position bytes,
   )
   served w (call (truncate f n)) inv = (
-    λ h. truncate-accepted P (w .device) (w .files) inv (h .0) f (h .1) n (h .2),
+    λ h. truncate-accepted P (w .device) (w .files) inv (h .0) (h .1) f (h .2) n (h .3),
+    truncate-mounted P (w .device) (w .files) inv f n,
     truncate-posix P (w .device) (w .files) inv f n,
   )
   served w (call (sync f budget)) inv = (
-    λ h. sync-accepted P (w .device) (w .files) inv (h .0) f (h .1) budget,
+    λ h. sync-accepted P (w .device) (w .files) inv (h .0) (h .1) f (h .2) budget,
+    sync-mounted P (w .device) (w .files) inv f budget,
     sync-posix P (w .device) (w .files) inv f budget,
   )
-  served w (call (mount budget)) inv = (λ h. mount-accepted P (w .device) (w .files) inv budget, tt)
+  served w (call (mount budget)) inv =
+      (λ h. mount-accepted P (w .device) (w .files) inv budget, mount-mounted P (w .device) (w .files) inv budget, tt)
   served w (powerLost frames) inv = tt
 
   finds-state : (w : World (store P)) (e : Event (store P)) → Holds w → FindsState (store P) w e

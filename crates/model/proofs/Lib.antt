@@ -6,5 +6,6 @@ pub mod Truncates
 pub mod Syncs
 pub mod Mounts
 pub mod Posix
+pub mod Refusals
 pub mod Claims
 pub mod Edges

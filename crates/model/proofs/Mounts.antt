@@ -7,7 +7,7 @@ use Prim.Native.Nat.{ℕ, _/_, _≤_, _<_}
 use native.Mathlib.Omega.{arith}
 use lib.Dec.{eqb}
 use lib.ListN.{length, getD, List·getD-eq-default}
-use borrow.Author.Tests.{eq-eqb}
+use borrow.Author.Tests.{ne-eqb}
 use Rattle.answer.specs.Coded.{Coded, done, CUT}
 use Rattle.memory.proofs.Cases.{split-lt}
 use Rattle.media.specs.Geometry.{files, pageBytes, fileBytes}
@@ -28,9 +28,6 @@ use Rattle.model.specs.States.{State}
 use Rattle.model.specs.Store.{storeMedia}
 use Rattle.model.proofs.Invariant.{Found, Mixed, Mounted, Invariant, on-media-size, on-media-byte, found-state}
 use Rattle.model.proofs.Syncs.{zero-not-one}
-
-pub not-done : (a : Coded) → eqb (a .number) 0 ≡ false → IsDone a → ⊥
-not-done a e z = false≢true (sym e ∙ eq-eqb _ _ z)
 
 module _ (P : ℕ) (d : Device) (m : Media) (l : Left P d m) where
   size-same : (g : ℕ) → sizeAt m g ≡ sizeAt (d .media) g
@@ -139,7 +136,7 @@ module _ (P : ℕ) (d : Device) (budget : ℕ) where
       Invariant P (r .left) (feed (mount budget) (r .answer) (storeMedia P (r .left)) fs)
   keeps-mount fs inv =
       mount-by P (λ r. Invariant P (r .left) (feed (mount budget) (r .answer) (storeMedia P (r .left)) fs)) budget d
-      (λ a e. rw e inv)
+      (λ k lo hi. rw (ne-eqb k 0 (λ e. (omega arith))) inv)
       (λ m l. cut-keeps P d m l fs inv)
       (λ m n l z. done-keeps P d m l z)
 
@@ -147,16 +144,16 @@ module _ (P : ℕ) (d : Device) (budget : ℕ) where
   pub starts : IsDone (Mounting.mount P budget d .answer) → Invariant P (Mounting.mount P budget d .left) (λ f. fresh (storeMedia P (Mounting.mount P budget d .left) f))
   starts =
       mount-by P (λ r. IsDone (r .answer) → Invariant P (r .left) (λ f. fresh (storeMedia P (r .left) f))) budget d
-      (λ a e z. absurd (not-done a e z))
-      (λ m l z. absurd (not-done (CUT budget) refl z))
+      (λ k lo hi z. absurd (omega arith))
+      (λ m l z. absurd (omega arith))
       (λ m n l z q. done-keeps P d m l z)
 
   -- what a mount in the list finds
   pub finds : (fs : Files) → Invariant P d fs → IsDone (Mounting.mount P budget d .answer) → (f : ℕ) → f < files → State (fs f) (storeMedia P (Mounting.mount P budget d .left) f)
   finds fs inv is f hf =
       mount-by P (λ r. IsDone (r .answer) → State (fs f) (storeMedia P (r .left) f)) budget d
-      (λ a e z. absurd (not-done a e z))
-      (λ m l z. absurd (not-done (CUT budget) refl z))
+      (λ k lo hi z. absurd (omega arith))
+      (λ m l z. absurd (omega arith))
       (λ m n l z q.
       found-state P (deviceOf m (d .frames) (mountedState (d .media .sizes))) f (l .bytes) hf (size-fits P d m l f hf) (fs f)
       (left-found P d m l (deviceOf m (d .frames) (mountedState (d .media .sizes))) refl f (fs f) hf (inv .found f hf)))

@@ -8,7 +8,7 @@ use native.Mathlib.Omega.{arith}
 use lib.Dec.{eqb, leb, ltb}
 use lib.ListN.{length, getD, take, drop, length-take, length-drop}
 use lib.Seq.{ext-getD}
-use borrow.Author.Tests.{eqb-true, leb-true, eq-eqb, le-leb}
+use borrow.Author.Tests.{eqb-true, leb-true, ne-eqb, le-leb}
 use Rattle.answer.specs.Coded.{Coded, done, CUT, NO-ROOM}
 use Rattle.answer.specs.Admission.{Test, test, firstRefusal, ifDone}
 use Rattle.memory.specs.Bytes.{part, overwrite}
@@ -28,30 +28,25 @@ use Rattle.cache.specs.Looking.{toPageEnd, lookCount, lookedAt, look}
 use Rattle.cache.proofs.Scan.{and-left, and-right}
 use Rattle.cache.proofs.Current.{length-current, current-at}
 use Rattle.cache.proofs.Sound.{Fit}
-use Rattle.cache.proofs.Admission.{passed, admit-by, admit-answer, first-by, first-all, first-after, passed-rest, file-refusing, file-refusing-more, file-admitted, file-admitted-more, file-passes, mount-passes}
+use Rattle.cache.proofs.Admission.{passed, admit-by, admit-answer, first-by, first-all, first-after, passed-rest, file-alone, file-eight, file-admitted, file-admitted-more, file-passes, mount-passes}
 use Rattle.cache.proofs.Writing.{Stopped, write-leaves, write-stops, write-some, grown-room}
 use Rattle.cache.proofs.Syncing.{budget-by, budget-answer, syncedDevice, sync-done, synced-fit}
+use Rattle.cache.proofs.Truncating.{truncated-mounted}
+use Rattle.cache.proofs.Mounting.{mount-by}
 use Rattle.cache.proofs.Looking.{looked-most, looked-current}
 use Rattle.model.specs.ModelFile.{ModelFile}
 use Rattle.model.specs.Run.{Files}
 use Rattle.model.specs.Claims.{IsDone}
-use Rattle.model.specs.Store.{storeMedia, storeReady}
+use Rattle.model.specs.Store.{storeMedia}
 use Rattle.model.proofs.Invariant.{Mounted, Invariant, on-media-is}
 use Rattle.model.proofs.Syncs.{ready}
-use Rattle.model.proofs.Mounts.{not-done}
 
 module _ (P : ℕ) (d : Device) (fs : Files) (inv : Invariant P d fs) where
   -- ---- calls that are accepted
 
-  module _ (r : storeReady d ≡ true) (f : ℕ) (hf : f < files) where
-    is-mounted : d .cache .mounted ≡ 1
-    is-mounted = eqb-true _ _ (and-left (eqb (d .cache .mounted) 1) _ r)
-
-    has-frames : length (d .frames) ≡ framesBytes
-    has-frames = eqb-true _ _ (and-right (eqb (d .cache .mounted) 1) _ r)
-
+  module _ (mounted : eqb (d .cache .mounted) 1 ≡ true) (shaped : eqb (length (d .frames)) framesBytes ≡ true) (f : ℕ) (hf : f < files) where
     passes : (range : Bool) → range ≡ true → passed (fileTests P d f range) ≡ true
-    passes range h = file-passes P d f range (inv .fit is-mounted) is-mounted has-frames hf h
+    passes range h = let up = eqb-true _ _ mounted in file-passes P d f range (inv .fit up) up (eqb-true _ _ shaped) hf h
 
     pub read-accepted : (position : ℕ) (buffer : List ℕ) → position ≤ fileBytes P → (n : ℕ) × (read P f position buffer d .answer ≡ done n)
     unfolding read
@@ -164,8 +159,8 @@ module _ (P : ℕ) (d : Device) (fs : Files) (inv : Invariant P d fs) where
       admit-by buffer
       (λ r. (IsDone (r .answer) → r .answer .count ≡ min (length buffer) (length (fs f .current) - position))
       × (r .left ≡ ifDone (r .answer) (overwrite buffer 0 (part (fs f .current) position (r .answer .count))) buffer))
-      (fileTests P d f (leb position (fileBytes P))) _ (file-refusing P d f (leb position (fileBytes P)))
-      (λ a e. (λ z. absurd (not-done a e z), rw e))
+      (fileTests P d f (leb position (fileBytes P))) _ (file-alone P d f (leb position (fileBytes P)))
+      (λ k lo hi. (λ z. absurd (omega arith), rw (ne-eqb k 0 (λ e. (omega arith)))))
       (λ e.
       let ad = file-admitted P d f (leb position (fileBytes P)) e in (
         λ _. rw (size-is f (ad .file) (ad .mounted)),
@@ -184,8 +179,10 @@ module _ (P : ℕ) (d : Device) (fs : Files) (inv : Invariant P d fs) where
       (λ a. (IsDone a → a .count ≡ min (pageBytes - position % pageBytes) (length (fs f .current) - position))
       × (length (ifDone a (lookedAt P f position d) []) ≤ a .count)
       × (ifDone a (lookedAt P f position d) [] ≡ part (fs f .current) position (length (ifDone a (lookedAt P f position d) []))))
-      (fileTests P d f (leb position (fileBytes P))) _ (file-refusing P d f (leb position (fileBytes P)))
-      (λ a e. (λ z. absurd (not-done a e z), rw e (omega arith), rw e))
+      (fileTests P d f (leb position (fileBytes P))) _ (file-alone P d f (leb position (fileBytes P)))
+      (λ k lo hi.
+      let e : eqb k 0 ≡ false = ne-eqb k 0 (λ e. (omega arith)) in
+      (λ z. absurd (omega arith), rw e (omega arith), rw e))
       (λ e.
       let ad = file-admitted P d f (leb position (fileBytes P)) e in (
         λ _. rw (size-is f (ad .file) (ad .mounted)),
@@ -209,8 +206,8 @@ module _ (P : ℕ) (d : Device) (fs : Files) (inv : Invariant P d fs) where
       (r .answer .count ≡ length bytes)
       ⊎ ((0 < r .answer .count) × (r .answer .count < length bytes) × ((position + r .answer .count) % pageBytes ≡ 0)
       × (firstRefusal (test (hasRoom (r .left) f (position + r .answer .count) (drop (r .answer .count) bytes)) NO-ROOM ∷ []) (done 0) ≡ NO-ROOM)))
-      (fileTests P d f range ++ us) _ (file-refusing-more P d f range us refl)
-      (λ a e z. absurd (not-done a e z))
+      (fileTests P d f range ++ us) _ (file-eight P d f range us ((8, omega arith, omega arith, refl), tt))
+      (λ k lo hi z. absurd (omega arith))
       (λ e z.
       let ad = file-admitted-more P d f range us e in
       let fits : position + length bytes ≤ fileBytes P = leb-true _ _ (ad .in-range) in
@@ -225,24 +222,68 @@ module _ (P : ℕ) (d : Device) (fs : Files) (inv : Invariant P d fs) where
   pub truncate-posix : (f n : ℕ) → IsDone (truncate P f n d .answer) → truncate P f n d .answer .count ≡ 0
   unfolding truncate
   truncate-posix f n =
-      admit-by d (λ r. IsDone (r .answer) → r .answer .count ≡ 0) (fileTests P d f (leb n (fileBytes P))) _ (file-refusing P d f (leb n (fileBytes P)))
-      (λ a e z. absurd (not-done a e z)) (λ e z. refl)
+      admit-by d (λ r. IsDone (r .answer) → r .answer .count ≡ 0) (fileTests P d f (leb n (fileBytes P))) _ (file-alone P d f (leb n (fileBytes P)))
+      (λ k lo hi z. absurd (omega arith)) (λ e z. refl)
 
   pub sync-posix : (f budget : ℕ) → IsDone (sync P f budget d .answer) → storeMedia P (sync P f budget d .left) f ≡ fs f .current
   unfolding sync
   sync-posix f budget =
       let Q : Result Device → Type 0 = λ r. IsDone (r .answer) → storeMedia P (r .left) f ≡ fs f .current in
-      admit-by d Q (fileTests P d f true) _ (file-refusing P d f true)
-      (λ a e z. absurd (not-done a e z))
+      admit-by d Q (fileTests P d f true) _ (file-alone P d f true)
+      (λ k lo hi z. absurd (omega arith))
       (λ e.
       let ad = file-admitted P d f true e in
       let r = ready P d fs f inv (ad .mounted) (ad .frames) (ad .file) in
       let y : Mounted P d f (fs f) = inv .mounted (ad .mounted) f (ad .file) in
       budget-by P budget (syncPlan P d f) (syncedState d f) d Q
-      (λ l z. absurd (not-done (CUT budget) refl z))
+      (λ l z. absurd (omega arith))
       (λ l z.
       let s = sync-done P d f r in
       let fit : Fit P (syncedDevice P d f) = synced-fit P d f r in
       sym
       (on-media-is P (syncedDevice P d f) f (fit .bytes) (ad .file) (fit .sizes .stored-fits f (ad .file)) (fs f .current) (y .current-size ∙ sym (s .stored))
       (λ i h. let hi : i < fileBytes P = omega (arith, fit .sizes .stored-fits f (ad .file)) in y .current-is i hi ∙ sym (s .byte i hi)))))
+
+  -- ---- mounted or down
+
+  abbrev up : Device → Bool
+  up c = eqb (c .cache .mounted) 1
+
+  pub write-mounted : (f position : ℕ) (bytes : List ℕ) → up (write P f position bytes d .left) ≡ up d
+  unfolding write
+  write-mounted f position bytes =
+      let range : Bool = leb (position + length bytes) (fileBytes P) in
+      let us : List Test = test (hasRoom d f position bytes) NO-ROOM ∷ [] in
+      admit-by d (λ r. up (r .left) ≡ up d) (fileTests P d f range ++ us) _ (file-eight P d f range us ((8, omega arith, omega arith, refl), tt))
+      (λ k lo hi. refl)
+      (λ e.
+      let ad = file-admitted-more P d f range us e in
+      let w = write-leaves P d (inv .fit (ad .mounted)) (ad .frames) f position bytes (ad .file) (leb-true _ _ (ad .in-range)) in
+      ap (λ (k : ℕ). eqb k 1) (w .1 .mounted))
+
+  pub truncate-mounted : (f n : ℕ) → up (truncate P f n d .left) ≡ up d
+  unfolding truncate
+  truncate-mounted f n =
+      admit-by d (λ r. up (r .left) ≡ up d) (fileTests P d f (leb n (fileBytes P))) _ (file-alone P d f (leb n (fileBytes P)))
+      (λ k lo hi. refl)
+      (λ e.
+      let ad = file-admitted P d f (leb n (fileBytes P)) e in
+      ap (λ (k : ℕ). eqb k 1) (truncated-mounted P d (inv .fit (ad .mounted)) (ad .frames) f n (ad .file)))
+
+  pub sync-mounted : (f budget : ℕ) → let r : Result Device = sync P f budget d in up (r .left) ≡ cond (eqb (r .answer .number) 9) false (up d)
+  unfolding sync syncedState
+  sync-mounted f budget =
+      let Q : Result Device → Type 0 = λ r. up (r .left) ≡ cond (eqb (r .answer .number) 9) false (up d) in
+      admit-by d Q (fileTests P d f true) _ (file-alone P d f true)
+      (λ k lo hi. let e : eqb k 9 ≡ false = ne-eqb k 9 (λ e. (omega arith)) in rw e)
+      (λ e. budget-by P budget (syncPlan P d f) (syncedState d f) d Q (λ l. refl) (λ l. refl))
+
+  pub mount-mounted : (budget : ℕ) → let r : Result Device = mount P budget d in up (r .left) ≡ cond (eqb (r .answer .number) 9) false (ifDone (r .answer) true (up d))
+  mount-mounted budget =
+      mount-by P (λ r. up (r .left) ≡ cond (eqb (r .answer .number) 9) false (ifDone (r .answer) true (up d))) budget d
+      (λ k lo hi.
+      let e : eqb k 9 ≡ false = ne-eqb k 9 (λ e. (omega arith)) in
+      let z : eqb k 0 ≡ false = ne-eqb k 0 (λ e. (omega arith)) in
+      rw (e, z))
+      (λ m l. refl)
+      (λ m n l c. refl)

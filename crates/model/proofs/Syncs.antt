@@ -19,7 +19,7 @@ use Rattle.cache.specs.Admission.{Result, fileTests}
 use Rattle.cache.specs.Syncing as Syncing
 use Rattle.cache.specs.Syncing.{syncPlan, syncedState}
 use Rattle.cache.proofs.Sound.{Fit}
-use Rattle.cache.proofs.Admission.{admit-by, Mountable, file-refusing, file-admitted}
+use Rattle.cache.proofs.Admission.{admit-by, Mountable, file-alone, file-admitted}
 use Rattle.cache.proofs.Syncing.{Own, all-take, budget-by, plan-own, own-other-byte, own-other-size, Ready, CutAt, Stored, boundary, sync-cut, sync-done, syncedDevice, synced-logical, synced-floor, synced-floor-other, synced-byte-other, synced-size-other, synced-own, synced-other, synced-fit}
 use Rattle.model.specs.ModelFile.{ModelFile, afterSync}
 use Rattle.model.specs.Run.{Files, change, feed}
@@ -175,8 +175,8 @@ module _ (P : ℕ) (d : Device) (fs : Files) (f budget : ℕ) (inv : Invariant P
   unfolding Syncing.sync
   keeps-sync found =
       let Q : Result Device → Type 0 = λ r. Invariant P (r .left) (feed (sync f budget) (r .answer) (found (r .left)) fs) in
-      admit-by d Q (fileTests P d f true) _ (file-refusing P d f true)
-      (λ a e. rw e inv)
+      admit-by d Q (fileTests P d f true) _ (file-alone P d f true)
+      (λ k lo hi. rw (ne-eqb k 0 (λ e. (omega arith))) inv)
       (λ e.
       let ad = file-admitted P d f true e in
       let r : Ready P d f = ready P d fs f inv (ad .mounted) (ad .frames) (ad .file) in

@@ -17,7 +17,7 @@ use Rattle.cache.specs.Admission.{Result, mediaShape, framesShape, sizesFit, st
 use Rattle.cache.specs.Truncating as Truncating
 use Rattle.cache.specs.Truncating.{truncated}
 use Rattle.cache.proofs.Sound.{Fit}
-use Rattle.cache.proofs.Admission.{admit-by, Mountable, file-refusing, file-admitted}
+use Rattle.cache.proofs.Admission.{admit-by, Mountable, file-alone, file-admitted}
 use Rattle.cache.proofs.Truncating.{truncated-logical, truncated-floor, truncated-sizes-other, truncated-fit, truncated-media, truncated-mounted, truncated-below, truncated-past, truncated-other}
 use Rattle.model.specs.ModelFile.{Entry, ModelFile, posixTruncate, afterTruncate}
 use Rattle.model.specs.ModelFile.Entry.{truncated as truncatedTo}
@@ -102,8 +102,8 @@ module _ (P : ℕ) (d : Device) (fs : Files) (f n : ℕ) (inv : Invariant P d fs
   keeps-truncate found =
       admit-by d (λ r. Invariant P (r .left) (feed (truncate f n) (r .answer) (found (r .left)) fs))
       (fileTests P d f (leb n (fileBytes P))) _
-      (file-refusing P d f (leb n (fileBytes P)))
-      (λ a e. rw e inv)
+      (file-alone P d f (leb n (fileBytes P)))
+      (λ k lo hi. rw (ne-eqb k 0 (λ e. (omega arith))) inv)
       (λ e.
       let ad = file-admitted P d f (leb n (fileBytes P)) e in
       truncated-keeps P d (inv .fit (ad .mounted)) (ad .frames) f n (ad .file) (leb-true _ _ (ad .in-range)) fs (ad .mounted) inv)

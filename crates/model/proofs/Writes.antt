@@ -18,7 +18,7 @@ use Rattle.cache.specs.Device.{Device, logicalAt, floorAt}
 use Rattle.cache.specs.Current.{currentAt}
 use Rattle.cache.specs.Admission.{Result, fileTests}
 use Rattle.cache.specs.Writing as Writing
-use Rattle.cache.proofs.Admission.{admit-by, Mountable, file-refusing-more, file-admitted-more}
+use Rattle.cache.proofs.Admission.{admit-by, Mountable, file-eight, file-admitted-more}
 use Rattle.cache.proofs.Writing.{Leaves, write-leaves}
 use Rattle.model.specs.ModelFile.{Entry, ModelFile, lay, afterWrite}
 use Rattle.model.specs.ModelFile.Entry.{written}
@@ -154,8 +154,8 @@ module _ (P : ℕ) (d : Device) (fs : Files) (f position : ℕ) (bytes : List �
   keeps-write found =
       admit-by d (λ r. Invariant P (r .left) (feed (write f position bytes) (r .answer) (found (r .left)) fs))
       (fileTests P d f (leb (position + length bytes) (fileBytes P)) ++ (test (Writing.hasRoom d f position bytes) NO-ROOM ∷ [])) _
-      (file-refusing-more P d f (leb (position + length bytes) (fileBytes P)) _ refl)
-      (λ a e. rw e inv)
+      (file-eight P d f (leb (position + length bytes) (fileBytes P)) _ ((8, omega arith, omega arith, refl), tt))
+      (λ k lo hi. rw (ne-eqb k 0 (λ e. (omega arith))) inv)
       (λ e.
       let ad = file-admitted-more P d f (leb (position + length bytes) (fileBytes P)) _ e in
       let w = write-leaves P d (inv .fit (ad .mounted)) (ad .frames) f position bytes (ad .file) (leb-true _ _ (ad .in-range)) in

@@ -1,11 +1,12 @@
--- Demands 2 and 3 of document 00, over any device. specs/Store has the device of this store; proofs/Claims has the proofs.
+-- The demands of document 00, over any device. specs/Store has the device of this store; proofs/Claims has the proofs.
 use Prim.Native.Nat.{ℕ, _+_, _-_, _%_, _≤_, _<_, min}
 use mathlib.Core.Path.{_≡_}
 use mathlib.Core.Logic.{_⊎_}
-use mathlib.Core.Bool.{true}
+use mathlib.Core.Bool.{Bool, true, false, cond}
 use mathlib.Core.List.{List, []}
+use lib.Dec.{eqb}
 use lib.ListN.{length, drop}
-use Rattle.answer.specs.Coded.{Coded, done, NO-ROOM}
+use Rattle.answer.specs.Coded.{Coded, done, refused, NO-ROOM, CUT}
 use Rattle.answer.specs.Admission.{firstRefusal, ifDone}
 use Rattle.memory.specs.Bytes.{part, overwrite}
 use Rattle.media.specs.Geometry.{files, pageBytes}
@@ -18,22 +19,65 @@ abbrev pub IsDone : Coded → Type 0
 IsDone a = a .number ≡ 0
 
 module _ (I : Interface) where
-  -- ---- demand 2
+  -- ---- demand 1: any call, any arguments, any device
 
-  -- nothing of the device or the arguments is out of order
+  -- the output where a call is refused: the buffer of a read as it came
+  abbrev pub asItCame : Call → List ℕ
+  asItCame (read f position buffer) = buffer
+  asItCame (look f position) = []
+  asItCame (write f position bytes) = []
+  asItCame (truncate f n) = []
+  asItCame (sync f budget) = []
+  asItCame (mount budget) = []
+
+  -- only sync and mount are cut; the count is the budget, and the device is down
+  abbrev pub IsCut : Call → Reply (I .State) → Type 0
+  IsCut (read f position buffer) r = ⊥
+  IsCut (look f position) r = ⊥
+  IsCut (write f position bytes) r = ⊥
+  IsCut (truncate f n) r = ⊥
+  IsCut (sync f budget) r = (r .answer ≡ CUT budget) × (I .isMounted (r .device) ≡ false)
+  IsCut (mount budget) r = (r .answer ≡ CUT budget) × (I .isMounted (r .device) ≡ false)
+
+  -- DEMAND 1: done; or one of the eight refusals that change nothing; or cut
+  abbrev pub Demand1 : Type 0
+  Demand1 =
+      (c : Call) (d : I .State) →
+      let r : Reply (I .State) = I .does c d in
+      IsDone (r .answer)
+      ⊎ (((k : ℕ) × (0 < k) × (k < 9) × (r .answer ≡ refused k) × (r .device ≡ d) × (r .output ≡ asItCame c)) ⊎ IsCut c r)
+
+  -- ---- demand 2: POSIX
+
+  -- nothing of the device or of the arguments is out of order
   abbrev pub InOrder : Call → I .State → Type 0
-  InOrder (read f position buffer) d = (I .isReady d ≡ true) × (f < files) × (position ≤ I .greatest d)
-  InOrder (look f position) d = (I .isReady d ≡ true) × (f < files) × (position ≤ I .greatest d)
-  InOrder (write f position bytes) d = (I .isReady d ≡ true) × (f < files) × (position + length bytes ≤ I .greatest d)
-  InOrder (truncate f n) d = (I .isReady d ≡ true) × (f < files) × (n ≤ I .greatest d)
-  InOrder (sync f budget) d = (I .isReady d ≡ true) × (f < files)
+  InOrder (read f position buffer) d = (I .isMounted d ≡ true) × (I .isShaped d ≡ true) × (f < files) × (position ≤ I .greatest d)
+  InOrder (look f position) d = (I .isMounted d ≡ true) × (I .isShaped d ≡ true) × (f < files) × (position ≤ I .greatest d)
+  InOrder (write f position bytes) d = (I .isMounted d ≡ true) × (I .isShaped d ≡ true) × (f < files) × (position + length bytes ≤ I .greatest d)
+  InOrder (truncate f n) d = (I .isMounted d ≡ true) × (I .isShaped d ≡ true) × (f < files) × (n ≤ I .greatest d)
+  InOrder (sync f budget) d = (I .isMounted d ≡ true) × (I .isShaped d ≡ true) × (f < files)
   InOrder (mount budget) d = Unit {0}
 
   -- a call in order is done, unless it meets one of its limits, and then it is refused for that
   abbrev pub Accepted : World I → Call → Type 0
   Accepted w c = InOrder c (w .device) → (n : ℕ) × (I .does c (w .device) .answer ≡ firstRefusal (I .limits c (w .device)) (done n))
 
-  -- what POSIX.1 says of the bytes, sizes and counts of a call, over the model files
+  -- a done mount mounts, and nothing but CUT ends that
+  abbrev pub mountedAfter : Call → Coded → Bool → Bool
+  mountedAfter (read f position buffer) a before = before
+  mountedAfter (look f position) a before = before
+  mountedAfter (write f position bytes) a before = before
+  mountedAfter (truncate f n) a before = before
+  mountedAfter (sync f budget) a before = cond (eqb (a .number) 9) false before
+  mountedAfter (mount budget) a before = cond (eqb (a .number) 9) false (ifDone a true before)
+
+  abbrev pub StaysMounted : World I → Call → Type 0
+  StaysMounted w c =
+      let r : Reply (I .State) = I .does c (w .device) in
+      I .isMounted (r .device) ≡ mountedAfter c (r .answer) (I .isMounted (w .device))
+
+  -- what POSIX.1 says of the bytes, sizes and counts of a call, over the model files; what a write and a truncate do to the
+  -- current bytes, the model files are told
   abbrev pub AsPosix : World I → Call → Type 0
   -- as many bytes as the buffer takes, up to the end of the file; the rest of the buffer keeps its bytes
   AsPosix w (read f position buffer) =
@@ -66,7 +110,7 @@ module _ (I : Interface) where
   AsPosix w (mount budget) = Unit {0}
 
   abbrev pub Served : World I → Event I → Type 0
-  Served w (call c) = Accepted w c × AsPosix w c
+  Served w (call c) = Accepted w c × StaysMounted w c × AsPosix w c
   Served w (powerLost x) = Unit {0}
 
   -- DEMAND 2: from any device right after a mount that is done, through any list of calls and power losses
@@ -75,7 +119,7 @@ module _ (I : Interface) where
       (d : I .State) (budget : ℕ) → IsDone (I .does (mount budget) d .answer) → (es : List (Event I))
       → Throughout I Served (start I (I .does (mount budget) d .device)) es
 
-  -- ---- demand 3
+  -- ---- demand 3: lost power
 
   -- a mount that is done finds of each file what its durable bytes become by its log
   abbrev pub Explained : World I → Event I → Type 0

@@ -32,8 +32,9 @@ pub record Interface : Type 1 where
   pub lose : Loss → State → State
   -- the bytes of each file on the media: as many as its stored size
   pub onMedia : State → ℕ → List ℕ
-  -- mounted, and what is borrowed beside the cache state has its length
-  pub isReady : State → Bool
+  pub isMounted : State → Bool
+  -- what is borrowed beside the cache state has its length
+  pub isShaped : State → Bool
   -- the greatest file size
   pub greatest : State → ℕ
   -- the refusals that remain where all else is in order: NO ROOM and CUT, with what each asks

@@ -1,6 +1,5 @@
 -- The device of this store, as the claims see it. P is the number of pages in a file.
 use Prim.Native.Nat.{ℕ}
-use mathlib.Core.Bool.{Bool, _&&_}
 use mathlib.Core.List.{List, [], _∷_}
 use lib.Dec.{eqb, leb}
 use lib.ListN.{length}
@@ -43,9 +42,6 @@ storeLoses frames d = deviceOf (d .media) frames downState
 abbrev pub storeMedia : ℕ → Device → ℕ → List ℕ
 storeMedia P d f = part (d .media .bytes) (fileStart P f) (sizeAt (d .media) f)
 
-abbrev pub storeReady : Device → Bool
-storeReady d = eqb (d .cache .mounted) 1 && eqb (length (d .frames)) framesBytes
-
 -- NO ROOM where the first page of a write has no slot; CUT where the budget is below the media writes needed
 abbrev pub storeLimits : ℕ → Call → Device → List Test
 storeLimits P (read f position buffer) d = []
@@ -62,7 +58,8 @@ store P = record {
   Loss = List ℕ;
   lose = storeLoses;
   onMedia = storeMedia P;
-  isReady = storeReady;
+  isMounted = λ d. eqb (d .cache .mounted) 1;
+  isShaped = λ d. eqb (length (d .frames)) framesBytes;
   greatest = λ d. fileBytes P;
   limits = storeLimits P;
 }
