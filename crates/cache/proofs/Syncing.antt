@@ -23,10 +23,11 @@ use Rattle.media.proofs.Write.{bytes-stay, sizes-stay, byte-after-page, byte-af
 use Rattle.cache.specs.declared.CacheState.{CacheState}
 use Rattle.cache.specs.Device.{Device, deviceOf, slotCount, framesBytes, frameStart, slotOf, isCached, logicalAt, floorAt, downState}
 use Rattle.cache.specs.Current.{frameByte, currentAt}
-use Rattle.cache.specs.Admission.{Result, give}
-use Rattle.cache.specs.Syncing.{trimWrites, pageWrites, sizeWrites, syncPlan, pagesOf, syncedState, underBudget}
+use Rattle.cache.specs.Admission.{Result, give, fileTests}
+use Rattle.cache.specs.Syncing.{trimWrites, pageWrites, sizeWrites, syncPlan, pagesOf, syncedState, underBudget, sync}
 use Rattle.cache.proofs.Current.{current-cached, current-media, current-zero, current-same}
 use Rattle.cache.proofs.Device.{slot-gone, slot-stays}
+use Rattle.cache.proofs.Admission.{admit-by, file-alone}
 use Rattle.cache.proofs.Sound.{Fit, freed-fit}
 
 -- ---- lists of writes
@@ -59,6 +60,14 @@ module _ (P budget : ℕ) (plan : List MediaWrite) (s : CacheState) (d : Device)
   budget-answer =
       budget-by (λ r. r .answer ≡ firstRefusal (test (leb (length plan) budget) (CUT budget) ∷ []) (done (length plan)))
       (λ l. rw (lt-leb _ _ l)) (λ l. rw (le-leb _ _ l))
+
+-- a sync only reads the frames
+pub sync-frames : (P f budget : ℕ) (d : Device) → sync P f budget d .left .frames ≡ d .frames
+unfolding sync
+sync-frames P f budget d =
+    admit-by d (λ r. r .left .frames ≡ d .frames) (fileTests P d f true) _ (file-alone P d f true)
+    (λ k lo hi. refl)
+    (λ e. budget-by P budget (syncPlan P d f) (syncedState d f) d (λ r. r .left .frames ≡ d .frames) (λ l. refl) (λ l. refl))
 
 -- ---- the plan of a sync
 

@@ -17,10 +17,20 @@ use Rattle.cache.specs.declared.Slot.{Slot}
 use Rattle.cache.specs.Scan.{firstIndex}
 use Rattle.cache.specs.Device.{Device, slotCount, framesBytes, frameStart, holds, slotOf, isCached, freeWhere, logicalAt, floorAt}
 use Rattle.cache.specs.Current.{frameByte, currentAt}
-use Rattle.cache.specs.Truncating.{pagesFrom, clearTail, withSizes, truncated}
+use Rattle.cache.specs.Admission.{Result, fileTests}
+use Rattle.cache.specs.Truncating.{pagesFrom, clearTail, withSizes, truncated, truncate}
 use Rattle.cache.proofs.Device.{slot-gone, slot-stays, slots-apart, frame-other}
 use Rattle.cache.proofs.Current.{current-cached, current-zero, current-like}
+use Rattle.cache.proofs.Admission.{admit-by, file-alone}
 use Rattle.cache.proofs.Sound.{Fit, freed-fit, sizes-fit}
+
+-- a truncate leaves the media
+pub truncate-media : (P f n : ℕ) (d : Device) → truncate P f n d .left .media ≡ d .media
+unfolding truncate truncated clearTail
+truncate-media P f n d =
+    admit-by d (λ r. r .left .media ≡ d .media) (fileTests P d f (leb n (fileBytes P))) _ (file-alone P d f (leb n (fileBytes P)))
+    (λ k lo hi. refl)
+    (λ e. refl)
 
 module _ (P : ℕ) (d : Device) (x : Fit P d) (frames : length (d .frames) ≡ framesBytes) (f n : ℕ) (hf : f < files) where
   -- the device after it

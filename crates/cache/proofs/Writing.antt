@@ -2,15 +2,17 @@
 use mathlib.Core.Path.{_≡_, refl, sym, ap, _∙_, subst}
 use mathlib.Core.Logic.{_≢_, _⊎_, inl, inr}
 use mathlib.Core.Bool.{Bool, true, false, cond}
-use mathlib.Core.List.{List, [], _∷_}
+use mathlib.Core.List.{List, [], _∷_, _++_}
 use Prim.Native.Nat.{ℕ, zero, suc, _+_, _-_, _*_, _/_, _%_, _≤_, _<_, min, max}
 use native.Mathlib.Omega.{arith}
-use lib.Dec.{ltb, eqb}
+use lib.Dec.{ltb, leb, eqb}
 use lib.ListN.{length, getD, set, take, drop, length-set, length-take, length-drop, length-replicate}
 use native.Mathlib.Nat.{add-zero}
 use lib.Seq.{getD-take, getD-drop, drop-drop, getD-set-same, getD-set-other}
 use borrow.Author.Tests.{ltb-true, ltb-false, lt-ltb, le-ltb, eq-eqb, ne-eqb}
 use borrow.Table.Steps.{cases}
+use Rattle.answer.specs.Coded.{NO-ROOM}
+use Rattle.answer.specs.Admission.{Test, test}
 use Rattle.memory.specs.Bytes.{zeros, part, overwrite}
 use Rattle.memory.proofs.Cases.{split-lt, split-eq}
 use Rattle.memory.proofs.Bytes.{getD-zeros, length-part, getD-part, length-overwrite, overwrite-none, overwrite-before, overwrite-in, overwrite-after}
@@ -21,11 +23,91 @@ use Rattle.cache.specs.declared.Slot.{Slot}
 use Rattle.cache.specs.Scan.{firstIndex}
 use Rattle.cache.specs.Device.{Device, slotCount, framesBytes, frameStart, freeSlot, isFree, holds, slotOf, isCached, firstFree, logicalAt, floorAt}
 use Rattle.cache.specs.Current.{frameByte, currentAt}
-use Rattle.cache.specs.Writing.{hasSlot, blankPage, filledPage, cachePage, patchPage, putPage, Written, andMore, putPages, grown, hasRoom}
+use Rattle.cache.specs.Admission.{Result, fileTests}
+use Rattle.cache.specs.Writing.{hasSlot, blankPage, filledPage, cachePage, patchPage, putPage, Written, andMore, putPages, grown, hasRoom, write}
 use Rattle.cache.proofs.Scan.{first-set, first-set-here}
 use Rattle.cache.proofs.Device.{holds-own, holds-one, free-holds, slots-apart, first-free-was-free, free-apart, frame-other}
 use Rattle.cache.proofs.Current.{current-cached, current-media, current-zero, current-same}
+use Rattle.cache.proofs.Admission.{admit-by, file-eight}
 use Rattle.cache.proofs.Sound.{SlotsFit, SizesFit, Fit, take-fit, logical-fit}
+
+-- ---- what page steps leave, of any device
+
+-- only slots and the bytes in frames differ
+pub record SameBut (d c : Device) : Type 0 where
+  pub media : c .media ≡ d .media
+  pub frames : length (c .frames) ≡ length (d .frames)
+  pub mounted : c .cache .mounted ≡ d .cache .mounted
+  pub slots : length (c .cache .slots) ≡ length (d .cache .slots)
+  pub logical : c .cache .logical ≡ d .cache .logical
+  pub floor : c .cache .floor ≡ d .cache .floor
+
+same-refl : (d : Device) → SameBut d d
+same-refl d = record { media = refl; frames = refl; mounted = refl; slots = refl; logical = refl; floor = refl }
+
+same-trans : {a b c : Device} → SameBut a b → SameBut b c → SameBut a c
+same-trans x y = record {
+  media = y .media ∙ x .media;
+  frames = y .frames ∙ x .frames;
+  mounted = y .mounted ∙ x .mounted;
+  slots = y .slots ∙ x .slots;
+  logical = y .logical ∙ x .logical;
+  floor = y .floor ∙ x .floor;
+}
+
+module _ (P f : ℕ) where
+  cache-same : (p : ℕ) (d : Device) → SameBut d (cachePage P f p d)
+  unfolding cachePage
+  cache-same p d = record {
+    media = refl;
+    frames = length-overwrite (d .frames) (frameStart (firstFree d)) (filledPage P d f p);
+    mounted = refl;
+    slots = length-set (d .cache .slots) (firstFree d) (record { used = true; file = f; page = p });
+    logical = refl;
+    floor = refl;
+  }
+
+  patch-same : (p offset : ℕ) (bytes : List ℕ) (d : Device) → SameBut d (patchPage f p offset bytes d)
+  unfolding patchPage
+  patch-same p offset bytes d = record {
+    media = refl;
+    frames = length-overwrite (d .frames) (frameStart (slotOf d f p) + offset) bytes;
+    mounted = refl;
+    slots = refl;
+    logical = refl;
+    floor = refl;
+  }
+
+  put-same : (p offset : ℕ) (bytes : List ℕ) (d : Device) → SameBut d (putPage P f p offset bytes d)
+  unfolding putPage
+  put-same p offset bytes d =
+      cases (isCached d f p)
+      (λ e. rw e (patch-same p offset bytes d))
+      (λ e. rw e (same-trans (cache-same p d) (patch-same p offset bytes (cachePage P f p d))))
+
+  pub puts-same : (n position : ℕ) (bytes : List ℕ) (d : Device) → SameBut d (putPages P f n position bytes d .device)
+  puts-same zero position bytes d = same-refl d
+  puts-same (suc n) position [] d = same-refl d
+  puts-same (suc n) position (b ∷ bs) d =
+      let p : ℕ = position / pageBytes in
+      let offset : ℕ = position % pageBytes in
+      let m : ℕ = pageBytes - position % pageBytes in
+      cases (hasSlot d f (position / pageBytes))
+      (λ e. rw e
+      (same-trans (put-same p offset (take m (b ∷ bs)) d)
+      (puts-same n (pageBytes * suc p) (drop m (b ∷ bs)) (putPage P f p offset (take m (b ∷ bs)) d))))
+      (λ e. rw e (same-refl d))
+
+  -- a write leaves the media
+  pub write-media : (position : ℕ) (bytes : List ℕ) (d : Device) → write P f position bytes d .left .media ≡ d .media
+  unfolding write grown
+  write-media position bytes d =
+      let range : Bool = leb (position + length bytes) (fileBytes P) in
+      let us : List Test = test (hasRoom d f position bytes) NO-ROOM ∷ [] in
+      let same : putPages P f P position bytes d .device .media ≡ d .media = puts-same P position bytes d .media in
+      admit-by d (λ r. r .left .media ≡ d .media) (fileTests P d f range ++ us) _ (file-eight P d f range us ((8, omega arith, omega arith, refl), tt))
+      (λ k lo hi. refl)
+      (λ e. cases (eqb (putPages P f P position bytes d .count) 0) (λ z. rw z same) (λ z. rw z same))
 
 module _ (P : ℕ) where
   -- what a page step needs of a device
@@ -34,25 +116,9 @@ module _ (P : ℕ) where
     pub frames : length (d .frames) ≡ framesBytes
     pub slots : SlotsFit P (d .cache .slots)
 
-  -- only slots and frames differ
-  pub record SameBut (d c : Device) : Type 0 where
-    pub media : c .media ≡ d .media
-    pub mounted : c .cache .mounted ≡ d .cache .mounted
-    pub logical : c .cache .logical ≡ d .cache .logical
-    pub floor : c .cache .floor ≡ d .cache .floor
-
-  same-trans : {a b c : Device} → SameBut a b → SameBut b c → SameBut a c
-  same-trans x y = record {
-    media = y .media ∙ x .media;
-    mounted = y .mounted ∙ x .mounted;
-    logical = y .logical ∙ x .logical;
-    floor = y .floor ∙ x .floor;
-  }
-
   -- c is d with the n bytes of file f from a on replaced by the first of bytes
   pub record Puts (f a n : ℕ) (bytes : List ℕ) (d c : Device) : Type 0 where
     pub framed : Framed c
-    pub same : SameBut d c
     pub inside : (i : ℕ) → a ≤ i → i < a + n → currentAt P c f i ≡ getD bytes (i - a) 0
     pub below : (i : ℕ) → i < a → currentAt P c f i ≡ currentAt P d f i
     pub above : (i : ℕ) → a + n ≤ i → currentAt P c f i ≡ currentAt P d f i
@@ -120,10 +186,6 @@ module _ (P : ℕ) where
         frames = rw length-overwrite (x .frames);
         slots = take-fit P (d .cache .slots) f p (firstFree d) (x .slots) hf hp none room free;
       }
-
-      pub cached-same : SameBut d (cachePage P f p d)
-      unfolding cachePage
-      cached-same = record { media = refl; mounted = refl; logical = refl; floor = refl }
 
       -- its own bytes
       cached-own : (i : ℕ) → i / pageBytes ≡ p → currentAt P (cachePage P f p d) f i ≡ currentAt P d f i
@@ -193,7 +255,6 @@ module _ (P : ℕ) where
         let a : ℕ = frameStart (slotOf d f p) + offset in
         record {
           framed = record { bytes = x .bytes; frames = rw length-overwrite (x .frames); slots = x .slots };
-          same = record { media = refl; mounted = refl; logical = refl; floor = refl };
           inside = λ i lo hi.
               patch-own i (omega arith)
               ∙ overwrite-in (d .frames) a bytes (frameStart (slotOf d f p) + i % pageBytes) (omega arith) (omega arith) (omega (arith, x .frames))
@@ -232,7 +293,6 @@ module _ (P : ℕ) where
         rw (le-ltb _ _ l)
         (record {
           framed = y .framed;
-          same = same-trans (cached-same d x f p hf hp l free) (y .same);
           inside = y .inside;
           below = λ i h. y .below i h ∙ same f i;
           above = λ i h. y .above i h ∙ same f i;
@@ -241,13 +301,9 @@ module _ (P : ℕ) where
 
   -- ---- page after page
 
-  same-refl : (d : Device) → SameBut d d
-  same-refl d = record { media = refl; mounted = refl; logical = refl; floor = refl }
-
   puts-none : (f a : ℕ) (bytes : List ℕ) (d : Device) → Framed d → Puts f a 0 bytes d d
   puts-none f a bytes d x = record {
     framed = x;
-    same = same-refl d;
     inside = λ i lo hi. absurd (omega arith);
     below = λ i h. refl;
     above = λ i h. refl;
@@ -263,7 +319,6 @@ module _ (P : ℕ) where
       let ld : length (drop m bytes) ≡ length bytes - m = length-drop m bytes in
       record {
         framed = y .framed;
-        same = same-trans (x .same) (y .same);
         inside = λ i lo hi.
             split-lt i (a + length (take m bytes))
             (λ l. y .below i (omega arith) ∙ x .inside i lo l ∙ getD-take m bytes (i - a) 0 (omega arith))
@@ -367,16 +422,15 @@ module _ (P : ℕ) where
     pub others : (g i : ℕ) → g ≢ f → currentAt P c g i ≡ currentAt P d g i
 
   module _ (d : Device) (x : Fit P d) (f position : ℕ) (bytes : List ℕ) (w : Written) (hf : f < files) (wrote : Wrote f position bytes d w)
-      (fits : position + length bytes ≤ fileBytes P) where
+      (s : SameBut d (w .device)) (fits : position + length bytes ≤ fileBytes P) where
     -- the sizes of the device that the pages were put into
     sizes-before : SizesFit P (w .device .cache .logical) (w .device .cache .floor) (w .device .media .sizes)
-    sizes-before = let s = wrote .puts .same in rw (s .media, s .logical, s .floor) (x .sizes)
+    sizes-before = rw (s .media, s .logical, s .floor) (x .sizes)
 
     grown-leaves : Leaves f position (w .count) bytes d (grown f position w)
     unfolding grown currentAt
     grown-leaves =
         let p = wrote .puts in
-        let s = p .same in
         let z = sizes-before in
         let l : logicalAt (w .device) f ≡ logicalAt d f = ap (λ (k : List ℕ). getD k f 0) (s .logical) in
         split-eq (w .count) 0
@@ -425,7 +479,7 @@ module _ (P : ℕ) where
       × Leaves f position (putPages P f P position bytes d .count) bytes d (grown f position (putPages P f P position bytes d))
   write-leaves d x frames f position bytes hf fits =
       let w = put-pages f hf P position bytes d (record { bytes = x .bytes; frames = frames; slots = x .slots }) fits in
-      (w .most, grown-leaves d x f position bytes (putPages P f P position bytes d) hf w fits)
+      (w .most, grown-leaves d x f position bytes (putPages P f P position bytes d) hf w (puts-same P f P position bytes d) fits)
 
   -- the size has no part in whether there is room
   pub grown-room : (f position : ℕ) (w : Written) (g at : ℕ) (bytes : List ℕ) → hasRoom (grown f position w) g at bytes ≡ hasRoom (w .device) g at bytes

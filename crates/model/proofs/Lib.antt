@@ -8,4 +8,5 @@ pub mod Mounts
 pub mod Posix
 pub mod Refusals
 pub mod Claims
+pub mod RuledOut
 pub mod Edges

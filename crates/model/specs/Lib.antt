@@ -4,3 +4,4 @@ pub mod Claims
 pub mod States
 pub mod Store
 pub mod Edges
+pub mod RuledOut

@@ -9,7 +9,7 @@ use Rattle.memory.specs.Bytes.{part}
 use Rattle.media.specs.Geometry.{fileBytes, fileStart}
 use Rattle.media.specs.Write.{MediaWrite, sizeAt}
 use Rattle.cache.specs.Device.{Device, deviceOf, framesBytes, downState}
-use Rattle.cache.specs.Admission.{Result}
+use Rattle.cache.specs.Admission.{Result, give}
 use Rattle.cache.specs.Reading as Reading
 use Rattle.cache.specs.Writing as Writing
 use Rattle.cache.specs.Truncating as Truncating
@@ -19,20 +19,29 @@ use Rattle.cache.specs.Looking as Looking
 use Rattle.model.specs.Run.{Call, Reply, Interface}
 use Rattle.model.specs.Run.Call.{read, look, write, truncate, sync, mount}
 
--- a call with no output
+-- the calls of a store on this device
+pub record Calls : Type 0 where
+  pub reading : ℕ → ℕ → List ℕ → Device → Result (List ℕ)
+  pub looking : ℕ → ℕ → Device → Result (List ℕ)
+  pub writing : ℕ → ℕ → List ℕ → Device → Result Device
+  pub truncating : ℕ → ℕ → Device → Result Device
+  pub syncing : ℕ → ℕ → Device → Result Device
+  pub mounting : ℕ → Device → Result Device
+
+-- a call that leaves the device, and a call with no output
+abbrev pub keeping : Device → Result (List ℕ) → Reply Device
+keeping d r = record { answer = r .answer; output = r .left; device = d }
+
 abbrev pub silent : Result Device → Reply Device
 silent r = record { answer = r .answer; output = []; device = r .left }
 
-abbrev pub storeDoes : ℕ → Call → Device → Reply Device
-storeDoes P (read f position buffer) d =
-    let r : Result (List ℕ) = Reading.read P f position buffer d in
-    record { answer = r .answer; output = r .left; device = d }
-storeDoes P (look f position) d =
-    record { answer = Looking.lookCount P f position d; output = Looking.look P f position d; device = d }
-storeDoes P (write f position bytes) d = silent (Writing.write P f position bytes d)
-storeDoes P (truncate f n) d = silent (Truncating.truncate P f n d)
-storeDoes P (sync f budget) d = silent (Syncing.sync P f budget d)
-storeDoes P (mount budget) d = silent (Mounting.mount P budget d)
+abbrev pub doing : Calls → Call → Device → Reply Device
+doing s (read f position buffer) d = keeping d (s .reading f position buffer d)
+doing s (look f position) d = keeping d (s .looking f position d)
+doing s (write f position bytes) d = silent (s .writing f position bytes d)
+doing s (truncate f n) d = silent (s .truncating f n d)
+doing s (sync f budget) d = silent (s .syncing f budget d)
+doing s (mount budget) d = silent (s .mounting budget d)
 
 -- power lost between calls leaves the media, the down state and any bytes in the page frames
 abbrev pub storeLoses : List ℕ → Device → Device
@@ -51,10 +60,11 @@ storeLimits P (truncate f n) d = []
 storeLimits P (sync f budget) d = test (leb (length (Syncing.syncPlan P d f)) budget) (CUT budget) ∷ []
 storeLimits P (mount budget) d = test (leb (length (Mounting.mountPlan P (d .media))) budget) (CUT budget) ∷ []
 
-abbrev pub store : ℕ → Interface
-store P = record {
+-- a store on this device, by its calls
+abbrev pub storeWith : ℕ → Calls → Interface
+storeWith P calls = record {
   State = Device;
-  does = storeDoes P;
+  does = doing calls;
   Loss = List ℕ;
   lose = storeLoses;
   onMedia = storeMedia P;
@@ -63,3 +73,20 @@ store P = record {
   greatest = λ d. fileBytes P;
   limits = storeLimits P;
 }
+
+-- the calls of this store: the definitions that the code is proved equal to
+abbrev pub storeCalls : ℕ → Calls
+storeCalls P = record {
+  reading = Reading.read P;
+  looking = λ f position d. give (Looking.lookCount P f position d) (Looking.look P f position d);
+  writing = Writing.write P;
+  truncating = Truncating.truncate P;
+  syncing = Syncing.sync P;
+  mounting = Mounting.mount P;
+}
+
+abbrev pub storeDoes : ℕ → Call → Device → Reply Device
+storeDoes P = doing (storeCalls P)
+
+abbrev pub store : ℕ → Interface
+store P = storeWith P (storeCalls P)

@@ -1,0 +1,148 @@
+-- Wrong stores, and that the demands rule each of them out: those of document 01, "Conditions of acceptance", and its traps.
+-- Each is this store with one call changed, at one or two pages in a file.
+use Prim.Native.Nat.{ℕ, zero, suc, _<_, min}
+use mathlib.Core.Bool.{Bool, true, cond, not, _&&_}
+use mathlib.Core.List.{List, [], _∷_, _++_, map}
+use lib.Dec.{eqb, ltb, leb}
+use lib.ListN.{length}
+use Rattle.answer.specs.Coded.{Coded, done, DOWN, NO-ROOM, CUT}
+use Rattle.memory.specs.Bytes.{zeros, part}
+use Rattle.media.specs.Geometry.{pageBytes, fileBytes}
+use Rattle.media.specs.Write.{MediaWrite, sizeAt}
+use Rattle.media.specs.Write.MediaWrite.{page}
+use Rattle.cache.specs.declared.Slot.{Slot}
+use Rattle.cache.specs.declared.FileSizes.{FileSizes}
+use Rattle.cache.specs.Device.{Device, deviceOf, frameStart, freeWhere, logicalAt, floorAt, withSlots, downState, mountedState}
+use Rattle.cache.specs.Sound.{sizesOf}
+use Rattle.cache.specs.Admission.{Result, give, admit, mediaShape, sizesFit, fileTests}
+use Rattle.cache.specs.Truncating.{pagesFrom, clearTail, withSizes}
+use Rattle.cache.specs.Syncing.{trimWrites, pageWrites, sizeWrites, syncPlan, syncedState, underBudget}
+use Rattle.model.specs.Run.{Interface}
+use Rattle.model.specs.Claims.{Demand2, Demand3}
+use Rattle.model.specs.Store.{Calls, storeWith, storeCalls}
+
+-- ---- this store with one call changed
+
+module _ (P : ℕ) where
+  abbrev pub withRead : (ℕ → ℕ → List ℕ → Device → Result (List ℕ)) → Interface
+  withRead h =
+      let s : Calls = storeCalls P in
+      storeWith P (record { reading = h; looking = s .looking; writing = s .writing; truncating = s .truncating; syncing = s .syncing; mounting = s .mounting })
+
+  abbrev pub withWrite : (ℕ → ℕ → List ℕ → Device → Result Device) → Interface
+  withWrite h =
+      let s : Calls = storeCalls P in
+      storeWith P (record { reading = s .reading; looking = s .looking; writing = h; truncating = s .truncating; syncing = s .syncing; mounting = s .mounting })
+
+  abbrev pub withTruncate : (ℕ → ℕ → Device → Result Device) → Interface
+  withTruncate h =
+      let s : Calls = storeCalls P in
+      storeWith P (record { reading = s .reading; looking = s .looking; writing = s .writing; truncating = h; syncing = s .syncing; mounting = s .mounting })
+
+  abbrev pub withSync : (ℕ → ℕ → Device → Result Device) → Interface
+  withSync h =
+      let s : Calls = storeCalls P in
+      storeWith P (record { reading = s .reading; looking = s .looking; writing = s .writing; truncating = s .truncating; syncing = h; mounting = s .mounting })
+
+  abbrev pub withMount : (ℕ → Device → Result Device) → Interface
+  withMount h =
+      let s : Calls = storeCalls P in
+      storeWith P (record { reading = s .reading; looking = s .looking; writing = s .writing; truncating = s .truncating; syncing = s .syncing; mounting = h })
+
+  -- a sync with another plan
+  abbrev pub withPlan : (Device → ℕ → List MediaWrite) → Interface
+  withPlan plan = withSync (λ f budget d. admit (fileTests P d f true) d (underBudget P budget (plan d f) (syncedState d f) d))
+
+-- ---- stores that are not accepted
+
+-- turns every call down
+abbrev pub idle : Interface
+idle =
+    storeWith 1
+    (record {
+      reading = λ f position buffer d. give DOWN buffer;
+      looking = λ f position d. give DOWN [];
+      writing = λ f position bytes d. give DOWN d;
+      truncating = λ f n d. give DOWN d;
+      syncing = λ f budget d. give DOWN d;
+      mounting = storeCalls 1 .mounting;
+    })
+
+-- says NO ROOM at once
+abbrev pub neverRoom : Interface
+neverRoom = withWrite 1 (λ f position bytes d. give NO-ROOM d)
+
+-- says CUT at once
+abbrev pub alwaysCut : Interface
+alwaysCut = withSync 1 (λ f budget d. give (CUT budget) (deviceOf (d .media) (d .frames) downState))
+
+-- a read with constant bytes
+abbrev pub constantRead : Interface
+constantRead = withRead 1 (λ f position buffer d. give (storeCalls 1 .reading f position buffer d .answer) (zeros (length buffer)))
+
+-- a read that copies none
+abbrev pub copiesNone : Interface
+copiesNone = withRead 1 (λ f position buffer d. give (storeCalls 1 .reading f position buffer d .answer) buffer)
+
+-- a sync that stores the first time and pretends afterwards
+abbrev pub pretends : Interface
+pretends =
+    withSync 1 (λ f budget d.
+    cond (eqb (sizeAt (d .media) f) 0) (storeCalls 1 .syncing f budget d) (give (done 0) (deviceOf (d .media) (d .frames) (syncedState d f))))
+
+-- a write that loses the mount
+abbrev pub dropsMount : Interface
+dropsMount =
+    withWrite 1 (λ f position bytes d.
+    let r : Result Device = storeCalls 1 .writing f position bytes d in give (r .answer) (deviceOf (r .left .media) (r .left .frames) downState))
+
+-- ---- the traps
+
+-- storing pages in slot order
+unfoldable pub slotWrites : List Slot → ℕ → List ℕ → ℕ → List MediaWrite
+slotWrites [] k frames f = []
+slotWrites (s ∷ slots) k frames f =
+    cond (s .used && eqb (s .file) f) (page f (s .page) (part frames (frameStart k) pageBytes) ∷ []) [] ++ slotWrites slots (suc k) frames f
+
+abbrev pub inSlotOrder : Interface
+inSlotOrder = withPlan 2 (λ d f. trimWrites d f ++ (slotWrites (d .cache .slots) 0 (d .frames) f ++ sizeWrites d f))
+
+-- storing the size before the pages
+abbrev pub sizeFirst : Interface
+sizeFirst = withPlan 1 (λ d f. trimWrites d f ++ (sizeWrites d f ++ pageWrites d f 1 0))
+
+-- keeping the latest truncate and not the smallest
+abbrev pub latestTruncate : Interface
+latestTruncate =
+    withTruncate 1 (λ f n d.
+    admit (fileTests 1 d f (leb n (fileBytes 1))) d
+    (give (done 0)
+    (clearTail f n
+    (deviceOf (d .media) (d .frames)
+    (withSizes f (record { logical = n; floor = min (sizeAt (d .media) f) n; stored = sizeAt (d .media) f })
+    (withSlots (d .cache) (map (freeWhere (pagesFrom f n)) (d .cache .slots))))))))
+
+-- skipping the TRIM because the size ended where it began
+abbrev pub trimSkipped : Interface
+trimSkipped = withPlan 1 (λ d f. cond (eqb (logicalAt d f) (sizeAt (d .media) f)) [] (trimWrites d f) ++ (pageWrites d f 1 0 ++ sizeWrites d f))
+
+-- leaving bytes past the stored size at mount
+abbrev pub mountLeaves : Interface
+mountLeaves = withMount 1 (λ budget d. admit (mediaShape 1 d ++ sizesFit 1 d) d (underBudget 1 budget [] (mountedState (d .media .sizes)) d))
+
+-- ---- the claim
+
+abbrev pub RuledOut : Type 0
+RuledOut =
+    (Demand2 idle → ⊥)
+    × (Demand2 neverRoom → ⊥)
+    × (Demand2 alwaysCut → ⊥)
+    × (Demand2 constantRead → ⊥)
+    × (Demand2 copiesNone → ⊥)
+    × (Demand2 pretends → ⊥)
+    × (Demand2 dropsMount → ⊥)
+    × (Demand3 inSlotOrder → ⊥)
+    × (Demand3 sizeFirst → ⊥)
+    × (Demand2 latestTruncate → ⊥)
+    × (Demand2 trimSkipped → ⊥)
+    × (Demand2 mountLeaves → ⊥)
