@@ -1,10 +1,10 @@
 -- A call's cases: refused with everything as it came, or admitted with what its tests showed.
-use mathlib.Core.Path.{_≡_, refl, sym, ap, _∙_}
-use mathlib.Core.Bool.{Bool, true, false, cond, _&&_, false≢true}
+use mathlib.Core.Path.{_≡_, refl}
+use mathlib.Core.Bool.{Bool, true}
 use mathlib.Core.List.{List, [], _∷_, _++_}
 use Prim.Native.Nat.{ℕ, _<_, _≤_}
 use native.Mathlib.Omega.{arith}
-use lib.Dec.{eqb, leb}
+use lib.Dec.{leb}
 use lib.ListN.{length, getD}
 use borrow.Author.Tests.{eqb-true, ltb-true, leb-true, eq-eqb, lt-ltb, le-leb}
 use borrow.Table.Steps.{cases}
@@ -111,8 +111,11 @@ module _ (P : ℕ) (d : Device) where
         in-range = at 7 (omega arith);
       }
 
-  pub file-admitted-more : (f : ℕ) (range : Bool) (us : List Test) → passed (fileTests P d f range ++ us) ≡ true → Admitted f range
-  file-admitted-more f range us e = file-admitted f range (passed-first (fileTests P d f range) us e)
+  -- the cases of a call on a file
+  pub file-by : {A : Type 0} (Q : Result A → Type 0) (f : ℕ) (range : Bool) (before : A) (r : Result A)
+      → ((k : ℕ) → 0 < k → k < 9 → Q (give (refused k) before)) → (Admitted f range → Q r) → Q (admit (fileTests P d f range) before r)
+  file-by Q f range before r fails holds =
+      admit-by before Q (fileTests P d f range) r (file-alone f range) fails (λ e. holds (file-admitted f range e))
 
   pub fits-all : Fit P d → every (λ n. leb n (fileBytes P)) (d .media .sizes) ≡ true
   fits-all x =

@@ -1,18 +1,16 @@
 -- Laws of the current byte: where it is taken from, and that it is taken from nowhere else.
 use mathlib.Core.Path.{_≡_, refl, sym, ap, _∙_}
-use mathlib.Core.Bool.{Bool, true, false, not, cond}
-use mathlib.Core.List.{List, [], _∷_}
+use mathlib.Core.Bool.{true}
+use mathlib.Core.List.{List}
 use Prim.Native.Nat.{ℕ, zero, suc, _+_, _*_, _/_, _%_, _<_, _≤_}
 use native.Mathlib.Nat.{not-suc-le-zero, le-of-suc-le-suc}
 use native.Mathlib.Omega.{arith}
-use lib.Dec.{ltb}
 use lib.ListN.{length, getD}
-use borrow.Author.Tests.{lt-ltb, le-ltb, not-true}
+use borrow.Author.Tests.{lt-ltb, le-ltb}
 use Rattle.memory.proofs.Cases.{split-lt}
 use Rattle.media.specs.Geometry.{pageBytes}
 use Rattle.media.specs.Write.{byteAt}
-use Rattle.cache.specs.declared.Slot.{Slot}
-use Rattle.cache.specs.Device.{Device, deviceOf, slotCount, freeSlot, isFree, holds, slotOf, isCached, floorAt}
+use Rattle.cache.specs.Device.{Device, deviceOf, slotCount, freeSlot, holds, slotOf, floorAt}
 use Rattle.cache.specs.Current.{frameByte, currentAt, currentBytes}
 use Rattle.cache.proofs.Scan.{first-passes}
 use Rattle.cache.proofs.Device.{holds-is}

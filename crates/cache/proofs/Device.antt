@@ -1,22 +1,22 @@
 -- Laws of slots and page frames.
-use mathlib.Core.Path.{_≡_, refl, sym, ap, _∙_, subst}
+use mathlib.Core.Path.{_≡_, sym, _∙_, subst}
 use mathlib.Core.Logic.{_≢_}
-use mathlib.Core.Bool.{Bool, true, false, not, _&&_}
+use mathlib.Core.Bool.{Bool, true, false, _&&_}
 use mathlib.Core.List.{List, map}
-use Prim.Native.Nat.{ℕ, _+_, _*_, _<_, _≤_}
+use Prim.Native.Nat.{ℕ, _+_, _<_, _≤_}
 use native.Mathlib.Omega.{arith}
 use lib.Dec.{eqb}
-use lib.ListN.{length, getD, set}
+use lib.ListN.{length, getD}
 use borrow.Author.Tests.{eqb-true, eq-eqb, not-true}
 use borrow.Table.Steps.{cases}
 use Rattle.memory.specs.Bytes.{overwrite}
 use Rattle.memory.proofs.Cases.{split-lt}
 use Rattle.memory.proofs.Bytes.{overwrite-before, overwrite-after}
-use Rattle.media.specs.Geometry.{files, pageBytes, mediaBytes}
+use Rattle.media.specs.Geometry.{pageBytes}
 use Rattle.cache.specs.declared.Slot.{Slot}
 use Rattle.cache.specs.Scan.{firstIndex}
-use Rattle.cache.specs.Device.{Device, slotCount, framesBytes, frameStart, freeSlot, isFree, holds, slotOf, firstFree, freeWhere}
-use Rattle.cache.proofs.Scan.{and-left, and-right, and-both, is-false, true-not-false, first-passes, first-map, first-map-none}
+use Rattle.cache.specs.Device.{Device, frameStart, freeSlot, isFree, holds, slotOf, firstFree, freeWhere}
+use Rattle.cache.proofs.Scan.{and-left, and-right, is-false, true-not-false, first-passes, first-map, first-map-none}
 
 -- ---- slots
 

@@ -3,6 +3,7 @@ pub mod Device
 pub mod Current
 pub mod Sound
 pub mod Admission
+pub mod Reading
 pub mod Writing
 pub mod Truncating
 pub mod Syncing

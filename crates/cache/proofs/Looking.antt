@@ -1,21 +1,35 @@
 -- What a look hands back: current bytes, from its position on.
-use mathlib.Core.Path.{_≡_, refl, sym, ap, _∙_}
-use mathlib.Core.Bool.{Bool, true, false, cond}
-use mathlib.Core.List.{List}
-use Prim.Native.Nat.{ℕ, _+_, _-_, _*_, _/_, _%_, _≤_, _<_, min}
+use mathlib.Core.Path.{_≡_, sym, ap, _∙_}
+use mathlib.Core.List.{List, []}
+use Prim.Native.Nat.{ℕ, _+_, _-_, _/_, _%_, _≤_, _<_}
 use native.Mathlib.Nat.{le-trans}
 use native.Mathlib.Omega.{arith}
-use lib.Dec.{ltb}
-use lib.ListN.{length, getD, take, drop, length-take, length-drop}
-use borrow.Author.Tests.{lt-ltb, le-ltb}
+use lib.ListN.{length, getD, length-take}
+use lib.Dec.{leb}
+use borrow.Author.Tests.{ne-eqb, lt-ltb, le-ltb}
+use Rattle.answer.specs.Coded.{Coded, refused, done}
+use Rattle.answer.specs.Admission.{ifDone}
 use Rattle.memory.specs.Bytes.{part}
 use Rattle.memory.proofs.Cases.{split-lt}
 use Rattle.memory.proofs.Bytes.{getD-part}
-use Rattle.media.specs.Geometry.{files, pageBytes, fileStart}
+use Rattle.media.specs.Geometry.{pageBytes, fileBytes, fileStart}
 use Rattle.cache.specs.Device.{Device, slotCount, frameStart, slotOf, logicalAt, floorAt}
-use Rattle.cache.specs.Current.{frameByte, currentAt}
-use Rattle.cache.specs.Looking.{toPageEnd, lookedAt}
+use Rattle.cache.specs.Current.{currentAt}
+use Rattle.cache.specs.Admission.{fileTests}
+use Rattle.cache.specs.Looking.{toPageEnd, lookCount, lookedAt, look}
+use Rattle.cache.proofs.Admission.{Admitted, first-by, file-alone, file-admitted}
 use Rattle.cache.proofs.Current.{current-cached, current-media}
+
+-- refused and empty, or done
+pub look-by : (P f position : ℕ) (d : Device) (Q : Coded → List ℕ → Type 0)
+    → ((k : ℕ) → 0 < k → k < 9 → Q (refused k) [])
+    → (Admitted P d f (leb position (fileBytes P)) → Q (done (toPageEnd position (logicalAt d f))) (lookedAt P f position d))
+    → Q (lookCount P f position d) (look P f position d)
+unfolding lookCount look
+look-by P f position d Q fails finished =
+    first-by (λ a. Q a (ifDone a (lookedAt P f position d) [])) (fileTests P d f (leb position (fileBytes P))) _ (file-alone P d f (leb position (fileBytes P)))
+    (λ k lo hi. rw (ne-eqb k 0 (λ e. (omega arith))) (fails k lo hi))
+    (λ e. finished (file-admitted P d f (leb position (fileBytes P)) e))
 
 part-most : (xs : List ℕ) (a n : ℕ) → length (part xs a n) ≤ n
 part-most xs a n = simp length-take (omega arith)

@@ -1,30 +1,28 @@
 -- What a mount or a format leaves on the media: cut after some TRIMs, or done.
 use mathlib.Core.Path.{_≡_, refl, sym, ap, _∙_}
 use mathlib.Core.Logic.{_≢_, _⊎_, inl, inr}
-use mathlib.Core.Bool.{Bool, true, false, cond, _&&_}
-use mathlib.Core.List.{List, [], _∷_, _++_}
+use mathlib.Core.Bool.{Bool, true, _&&_}
+use mathlib.Core.List.{_++_}
 use Prim.Native.Nat.{ℕ, zero, suc, _+_, _-_, _≤_, _<_}
 use native.Mathlib.Nat.{le-of-suc-le-suc}
 use native.Mathlib.Omega.{arith}
-use lib.Dec.{eqb, leb}
+use lib.Dec.{eqb}
 use lib.ListN.{length, getD, take}
 use lib.Seq.{take-nil, take-length, ext-getD}
 use borrow.Author.Tests.{eqb-true, eq-eqb, ne-eqb, le-leb, lt-leb}
 use borrow.Table.Steps.{cases}
 use Rattle.answer.specs.Coded.{refused, done, CUT}
 use Rattle.memory.specs.Bytes.{part}
-use Rattle.memory.proofs.Cases.{split-lt, split-eq}
+use Rattle.memory.proofs.Cases.{split-eq}
 use Rattle.memory.proofs.Bytes.{length-part, getD-part}
 use Rattle.media.specs.Geometry.{files, fileBytes, mediaBytes, fileStart}
-use Rattle.media.specs.Write.{Media, MediaWrite, byteAt, sizeAt, apply, applyAll, InLimits, All}
+use Rattle.media.specs.Write.{Media, byteAt, sizeAt, apply, applyAll, InLimits, All}
 use Rattle.media.specs.Write.MediaWrite.{trim}
 use Rattle.media.proofs.Geometry.{file-end}
 use Rattle.media.proofs.Write.{bytes-stay, sizes-stay, byte-after-trim, size-after-trim, all-bytes-stay, all-sizes-stay}
-use Rattle.cache.specs.Scan.{every}
 use Rattle.cache.specs.Device.{Device, deviceOf, downState, mountedState}
 use Rattle.cache.specs.Admission.{Result, give, mediaShape, sizesFit}
-use Rattle.cache.specs.Syncing.{underBudget}
-use Rattle.cache.specs.Mounting.{trimsFrom, zeroFrom, mountPlan, mount, formatPlan, format}
+use Rattle.cache.specs.Mounting.{trimsFrom, zeroFrom, mountPlan, mount, formatPlan}
 use Rattle.cache.proofs.Scan.{and-left, and-right, every-at}
 use Rattle.cache.proofs.Admission.{admit-by, Mountable, mount-eight, mount-admitted}
 use Rattle.cache.proofs.Syncing.{budget-by}

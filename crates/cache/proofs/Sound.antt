@@ -1,24 +1,24 @@
 -- Sound cache states as facts, and what keeps them.
-use mathlib.Core.Path.{_≡_, refl, sym, ap, _∙_, subst}
+use mathlib.Core.Path.{_≡_, refl, sym, ap, _∙_}
 use mathlib.Core.Logic.{_≢_}
-use mathlib.Core.Bool.{Bool, true, false, not, cond, _&&_, false≢true}
+use mathlib.Core.Bool.{Bool, true, false, _&&_, false≢true}
 use mathlib.Core.List.{List, map}
-use Prim.Native.Nat.{ℕ, zero, suc, _<_, _≤_, min}
+use Prim.Native.Nat.{ℕ, zero, suc, _<_, _≤_}
 use native.Mathlib.Omega.{arith}
-use lib.Dec.{eqb, ltb, leb}
+use lib.Dec.{leb}
 use lib.ListN.{length, getD, set, length-set, length-map, replicate, List·getD-map}
 use lib.Seq.{getD-set-same, getD-set-other, set-getD}
-use borrow.Author.Tests.{eqb-true, ltb-true, leb-true, eq-eqb, ne-eqb, lt-ltb, le-leb}
+use borrow.Author.Tests.{eqb-true, leb-true, eq-eqb, lt-ltb, le-leb}
 use borrow.Table.Steps.{cases}
 use Rattle.memory.proofs.Cases.{split-eq}
 use Rattle.media.specs.Geometry.{files, fileBytes, mediaBytes}
 use Rattle.cache.specs.declared.Slot.{Slot}
 use Rattle.cache.specs.declared.FileSizes.{FileSizes}
-use Rattle.cache.specs.Scan.{allOf, every, everyBelow, firstIndex}
-use Rattle.cache.specs.Device.{Device, slotCount, freeSlot, noSlots, isFree, holds, slotOf, freeWhere, logicalAt, floorAt}
+use Rattle.cache.specs.Scan.{every, everyBelow, firstIndex}
+use Rattle.cache.specs.Device.{Device, slotCount, freeSlot, noSlots, isFree, holds, freeWhere}
 use Rattle.cache.specs.Sizes.{orderTests, inOrder}
 use Rattle.cache.specs.Sound.{inRange, holdsAlone, sizesOf, soundTests, isSound}
-use Rattle.cache.proofs.Scan.{and-left, and-right, is-false, true-not-false, allOf-at, everyBelow-at, everyBelow-all, every-at, every-all, first-set, first-set-here}
+use Rattle.cache.proofs.Scan.{is-false, true-not-false, allOf-at, everyBelow-at, everyBelow-all, every-at, every-all, first-set, first-set-here}
 use Rattle.cache.proofs.Device.{holds-own, holds-one, free-holds, slot-stays}
 
 module _ (P : ℕ) where

@@ -1,33 +1,33 @@
 -- What a sync leaves on the media: cut after some writes, or done.
 use mathlib.Core.Path.{_≡_, refl, sym, ap, _∙_}
 use mathlib.Core.Logic.{_≢_, _⊎_, inl, inr}
-use mathlib.Core.Bool.{Bool, true, false, cond, _&&_}
-use mathlib.Core.List.{List, [], _∷_, _++_, map}
+use mathlib.Core.Bool.{true, false, cond}
+use mathlib.Core.List.{List, [], _∷_, _++_}
 use Prim.Native.Nat.{ℕ, zero, suc, _+_, _-_, _*_, _/_, _%_, _≤_, _<_}
-use native.Mathlib.Nat.{not-suc-le-zero, le-of-suc-le-suc}
+use native.Mathlib.Nat.{le-of-suc-le-suc}
 use native.Mathlib.Omega.{arith}
 use lib.Dec.{eqb, ltb, leb}
-use lib.ListN.{length, getD, set, take, length-append, length-set}
-use lib.Seq.{getD-set-same, getD-set-other, take-nil, take-append-le, take-all, take-length}
-use borrow.Author.Tests.{eq-eqb, ne-eqb, lt-ltb, le-ltb, ltb-true, ltb-false, le-leb, lt-leb, eqb-true}
+use lib.ListN.{length, getD, take, length-append, length-set}
+use lib.Seq.{getD-set-same, getD-set-other, take-nil, take-append-le, take-length}
+use borrow.Author.Tests.{eq-eqb, ne-eqb, lt-ltb, le-ltb, ltb-false, le-leb, lt-leb}
 use borrow.Table.Steps.{cases}
-use Rattle.answer.specs.Coded.{Coded, done, CUT}
+use Rattle.answer.specs.Coded.{refused, done, CUT}
 use Rattle.answer.specs.Admission.{test, firstRefusal}
 use Rattle.memory.specs.Bytes.{part}
 use Rattle.memory.proofs.Cases.{split-lt, split-eq}
 use Rattle.memory.proofs.Bytes.{length-part, getD-part}
 use Rattle.media.specs.Geometry.{files, pagesPerFile, pageBytes, fileBytes, mediaBytes}
 use Rattle.media.specs.Write.{Media, MediaWrite, byteAt, sizeAt, apply, applyAll, InLimits, fileOf, All}
-use Rattle.media.specs.Write.MediaWrite.{page, size, trim}
+use Rattle.media.specs.Write.MediaWrite.{page, trim}
 use Rattle.media.proofs.Write.{bytes-stay, sizes-stay, byte-after-page, byte-after-trim, all-append, all-bytes-stay, all-sizes-stay, others-byte, others-size}
 use Rattle.cache.specs.declared.CacheState.{CacheState}
 use Rattle.cache.specs.Device.{Device, deviceOf, slotCount, framesBytes, frameStart, slotOf, isCached, logicalAt, floorAt, downState}
-use Rattle.cache.specs.Current.{frameByte, currentAt}
-use Rattle.cache.specs.Admission.{Result, give, fileTests}
+use Rattle.cache.specs.Current.{currentAt}
+use Rattle.cache.specs.Admission.{Result, give}
 use Rattle.cache.specs.Syncing.{trimWrites, pageWrites, sizeWrites, syncPlan, pagesOf, syncedState, underBudget, sync}
 use Rattle.cache.proofs.Current.{current-cached, current-media, current-zero, current-same}
 use Rattle.cache.proofs.Device.{slot-gone, slot-stays}
-use Rattle.cache.proofs.Admission.{admit-by, file-alone}
+use Rattle.cache.proofs.Admission.{Admitted, file-by}
 use Rattle.cache.proofs.Sound.{Fit, freed-fit}
 
 -- ---- lists of writes
@@ -61,13 +61,21 @@ module _ (P budget : ℕ) (plan : List MediaWrite) (s : CacheState) (d : Device)
       budget-by (λ r. r .answer ≡ firstRefusal (test (leb (length plan) budget) (CUT budget) ∷ []) (done (length plan)))
       (λ l. rw (lt-leb _ _ l)) (λ l. rw (le-leb _ _ l))
 
--- a sync only reads the frames
-pub sync-frames : (P f budget : ℕ) (d : Device) → sync P f budget d .left .frames ≡ d .frames
+-- a sync is refused with everything as it came, cut, or done
+pub sync-by : (P f budget : ℕ) (d : Device) (Q : Result Device → Type 0)
+    → ((k : ℕ) → 0 < k → k < 9 → Q (give (refused k) d))
+    → (Admitted P d f true → budget < length (syncPlan P d f)
+    → Q (give (CUT budget) (deviceOf (applyAll P (d .media) (take budget (syncPlan P d f))) (d .frames) downState)))
+    → (Admitted P d f true → length (syncPlan P d f) ≤ budget
+    → Q (give (done (length (syncPlan P d f))) (deviceOf (applyAll P (d .media) (syncPlan P d f)) (d .frames) (syncedState d f))))
+    → Q (sync P f budget d)
 unfolding sync
-sync-frames P f budget d =
-    admit-by d (λ r. r .left .frames ≡ d .frames) (fileTests P d f true) _ (file-alone P d f true)
-    (λ k lo hi. refl)
-    (λ e. budget-by P budget (syncPlan P d f) (syncedState d f) d (λ r. r .left .frames ≡ d .frames) (λ l. refl) (λ l. refl))
+sync-by P f budget d Q fails cut finished =
+    file-by P d Q f true d _ fails (λ ad. budget-by P budget (syncPlan P d f) (syncedState d f) d Q (cut ad) (finished ad))
+
+-- it only reads the frames
+pub sync-frames : (P f budget : ℕ) (d : Device) → sync P f budget d .left .frames ≡ d .frames
+sync-frames P f budget d = sync-by P f budget d (λ r. r .left .frames ≡ d .frames) (λ k lo hi. refl) (λ ad l. refl) (λ ad l. refl)
 
 -- ---- the plan of a sync
 

@@ -1,36 +1,38 @@
 -- What a truncate does to the current bytes and the sizes.
-use mathlib.Core.Path.{_≡_, refl, sym, ap, _∙_}
+use mathlib.Core.Path.{_≡_, refl, _∙_}
 use mathlib.Core.Logic.{_≢_}
-use mathlib.Core.Bool.{Bool, true, false, cond, _&&_}
-use mathlib.Core.List.{List, map}
 use Prim.Native.Nat.{ℕ, _+_, _-_, _*_, _/_, _%_, _≤_, _<_, min}
 use native.Mathlib.Omega.{arith}
-use lib.Dec.{eqb, ltb, leb}
-use lib.ListN.{length, getD, set, length-set, length-map, length-replicate}
+use lib.Dec.{leb}
+use lib.ListN.{length, getD, length-map, length-replicate}
 use lib.Seq.{getD-set-same, getD-set-other}
 use borrow.Author.Tests.{eq-eqb, ne-eqb, lt-ltb, le-ltb, le-leb, lt-leb}
+use Rattle.answer.specs.Coded.{refused, done}
 use Rattle.memory.specs.Bytes.{zeros, overwrite}
 use Rattle.memory.proofs.Cases.{split-lt, split-eq}
 use Rattle.memory.proofs.Bytes.{getD-zeros, length-overwrite, overwrite-before, overwrite-in}
 use Rattle.media.specs.Geometry.{files, pageBytes, fileBytes}
-use Rattle.cache.specs.declared.Slot.{Slot}
-use Rattle.cache.specs.Scan.{firstIndex}
-use Rattle.cache.specs.Device.{Device, slotCount, framesBytes, frameStart, holds, slotOf, isCached, freeWhere, logicalAt, floorAt}
+use Rattle.cache.specs.Device.{Device, slotCount, framesBytes, frameStart, slotOf, freeWhere, logicalAt, floorAt}
 use Rattle.cache.specs.Current.{frameByte, currentAt}
-use Rattle.cache.specs.Admission.{Result, fileTests}
+use Rattle.cache.specs.Admission.{Result, give}
 use Rattle.cache.specs.Truncating.{pagesFrom, clearTail, withSizes, truncated, truncate}
 use Rattle.cache.proofs.Device.{slot-gone, slot-stays, slots-apart, frame-other}
 use Rattle.cache.proofs.Current.{current-cached, current-zero, current-like}
-use Rattle.cache.proofs.Admission.{admit-by, file-alone}
+use Rattle.cache.proofs.Admission.{Admitted, file-by}
 use Rattle.cache.proofs.Sound.{Fit, freed-fit, sizes-fit}
+
+-- refused with everything as it came, or done
+pub truncate-by : (P f n : ℕ) (d : Device) (Q : Result Device → Type 0)
+    → ((k : ℕ) → 0 < k → k < 9 → Q (give (refused k) d))
+    → (Admitted P d f (leb n (fileBytes P)) → Q (give (done 0) (truncated f n d)))
+    → Q (truncate P f n d)
+unfolding truncate
+truncate-by P f n d Q fails finished = file-by P d Q f (leb n (fileBytes P)) d _ fails finished
 
 -- a truncate leaves the media
 pub truncate-media : (P f n : ℕ) (d : Device) → truncate P f n d .left .media ≡ d .media
-unfolding truncate truncated clearTail
-truncate-media P f n d =
-    admit-by d (λ r. r .left .media ≡ d .media) (fileTests P d f (leb n (fileBytes P))) _ (file-alone P d f (leb n (fileBytes P)))
-    (λ k lo hi. refl)
-    (λ e. refl)
+unfolding truncated clearTail
+truncate-media P f n d = truncate-by P f n d (λ r. r .left .media ≡ d .media) (λ k lo hi. refl) (λ ad. refl)
 
 module _ (P : ℕ) (d : Device) (x : Fit P d) (frames : length (d .frames) ≡ framesBytes) (f n : ℕ) (hf : f < files) where
   -- the device after it

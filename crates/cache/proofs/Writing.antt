@@ -1,34 +1,33 @@
 -- What a write does to the current bytes: a page that becomes cached, a page that is patched, page after page.
-use mathlib.Core.Path.{_≡_, refl, sym, ap, _∙_, subst}
+use mathlib.Core.Path.{_≡_, refl, sym, ap, _∙_}
 use mathlib.Core.Logic.{_≢_, _⊎_, inl, inr}
 use mathlib.Core.Bool.{Bool, true, false, cond}
 use mathlib.Core.List.{List, [], _∷_, _++_}
 use Prim.Native.Nat.{ℕ, zero, suc, _+_, _-_, _*_, _/_, _%_, _≤_, _<_, min, max}
 use native.Mathlib.Omega.{arith}
-use lib.Dec.{ltb, leb, eqb}
-use lib.ListN.{length, getD, set, take, drop, length-set, length-take, length-drop, length-replicate}
+use lib.Dec.{leb, eqb}
+use lib.ListN.{length, getD, take, drop, length-set, length-take, length-drop, length-replicate}
 use native.Mathlib.Nat.{add-zero}
 use lib.Seq.{getD-take, getD-drop, drop-drop, getD-set-same, getD-set-other}
-use borrow.Author.Tests.{ltb-true, ltb-false, lt-ltb, le-ltb, eq-eqb, ne-eqb}
+use borrow.Author.Tests.{ltb-true, lt-ltb, le-ltb, eq-eqb, ne-eqb}
 use borrow.Table.Steps.{cases}
-use Rattle.answer.specs.Coded.{NO-ROOM}
+use Rattle.answer.specs.Coded.{refused, done, NO-ROOM}
 use Rattle.answer.specs.Admission.{Test, test}
-use Rattle.memory.specs.Bytes.{zeros, part, overwrite}
+use Rattle.memory.specs.Bytes.{part, overwrite}
 use Rattle.memory.proofs.Cases.{split-lt, split-eq}
 use Rattle.memory.proofs.Bytes.{getD-zeros, length-part, getD-part, length-overwrite, overwrite-none, overwrite-before, overwrite-in, overwrite-after}
-use Rattle.media.specs.Geometry.{files, pageBytes, fileBytes, mediaBytes, fileStart, pageStart}
+use Rattle.media.specs.Geometry.{files, pageBytes, fileBytes, mediaBytes, pageStart}
 use Rattle.media.specs.Write.{byteAt}
 use Rattle.media.proofs.Geometry.{file-end, page-end}
 use Rattle.cache.specs.declared.Slot.{Slot}
-use Rattle.cache.specs.Scan.{firstIndex}
 use Rattle.cache.specs.Device.{Device, slotCount, framesBytes, frameStart, freeSlot, isFree, holds, slotOf, isCached, firstFree, logicalAt, floorAt}
 use Rattle.cache.specs.Current.{frameByte, currentAt}
-use Rattle.cache.specs.Admission.{Result, fileTests}
+use Rattle.cache.specs.Admission.{Result, give, fileTests}
 use Rattle.cache.specs.Writing.{hasSlot, blankPage, filledPage, cachePage, patchPage, putPage, Written, andMore, putPages, grown, hasRoom, write}
-use Rattle.cache.proofs.Scan.{first-set, first-set-here}
-use Rattle.cache.proofs.Device.{holds-own, holds-one, free-holds, slots-apart, first-free-was-free, free-apart, frame-other}
+use Rattle.cache.proofs.Scan.{and-left, first-set, first-set-here}
+use Rattle.cache.proofs.Device.{holds-one, free-holds, slots-apart, first-free-was-free, free-apart, frame-other}
 use Rattle.cache.proofs.Current.{current-cached, current-media, current-zero, current-same}
-use Rattle.cache.proofs.Admission.{admit-by, file-eight}
+use Rattle.cache.proofs.Admission.{Admitted, admit-by, passed-first, passed-rest, file-eight, file-admitted}
 use Rattle.cache.proofs.Sound.{SlotsFit, SizesFit, Fit, take-fit, logical-fit}
 
 -- ---- what page steps leave, of any device
@@ -98,16 +97,30 @@ module _ (P f : ℕ) where
       (puts-same n (pageBytes * suc p) (drop m (b ∷ bs)) (putPage P f p offset (take m (b ∷ bs)) d))))
       (λ e. rw e (same-refl d))
 
-  -- a write leaves the media
-  pub write-media : (position : ℕ) (bytes : List ℕ) (d : Device) → write P f position bytes d .left .media ≡ d .media
-  unfolding write grown
-  write-media position bytes d =
-      let range : Bool = leb (position + length bytes) (fileBytes P) in
-      let us : List Test = test (hasRoom d f position bytes) NO-ROOM ∷ [] in
-      let same : putPages P f P position bytes d .device .media ≡ d .media = puts-same P position bytes d .media in
-      admit-by d (λ r. r .left .media ≡ d .media) (fileTests P d f range ++ us) _ (file-eight P d f range us ((8, omega arith, omega arith, refl), tt))
-      (λ k lo hi. refl)
-      (λ e. cases (eqb (putPages P f P position bytes d .count) 0) (λ z. rw z same) (λ z. rw z same))
+-- ---- the cases of a write
+
+-- refused with everything as it came, or done with what the pages took
+pub write-by : (P f position : ℕ) (bytes : List ℕ) (d : Device) (Q : Result Device → Type 0)
+    → ((k : ℕ) → 0 < k → k < 9 → Q (give (refused k) d))
+    → (Admitted P d f (leb (position + length bytes) (fileBytes P)) → hasRoom d f position bytes ≡ true
+    → let w : Written = putPages P f P position bytes d in Q (give (done (w .count)) (grown f position w)))
+    → Q (write P f position bytes d)
+unfolding write
+write-by P f position bytes d Q fails finished =
+    let range : Bool = leb (position + length bytes) (fileBytes P) in
+    let room : List Test = test (hasRoom d f position bytes) NO-ROOM ∷ [] in
+    admit-by d Q (fileTests P d f range ++ room) _ (file-eight P d f range room ((8, omega arith, omega arith, refl), tt)) fails (λ e.
+    finished (file-admitted P d f range (passed-first (fileTests P d f range) room e))
+    (and-left (hasRoom d f position bytes) true (passed-rest (fileTests P d f range) room e)))
+
+-- a write leaves the media
+pub write-media : (P f position : ℕ) (bytes : List ℕ) (d : Device) → write P f position bytes d .left .media ≡ d .media
+unfolding grown
+write-media P f position bytes d =
+    let same : putPages P f P position bytes d .device .media ≡ d .media = puts-same P f P position bytes d .media in
+    write-by P f position bytes d (λ r. r .left .media ≡ d .media)
+    (λ k lo hi. refl)
+    (λ ad room. cases (eqb (putPages P f P position bytes d .count) 0) (λ z. rw z same) (λ z. rw z same))
 
 module _ (P : ℕ) where
   -- what a page step needs of a device

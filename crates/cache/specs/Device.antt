@@ -6,7 +6,7 @@ use lib.Dec.{eqb, ltb}
 use lib.ListN.{getD, set, replicate}
 use Rattle.memory.specs.Bytes.{zeros}
 use Rattle.media.specs.Geometry.{files, pageBytes}
-use Rattle.media.specs.Write.{Media, mediaOf}
+use Rattle.media.specs.Write.{Media}
 use Rattle.cache.specs.declared.Slot.{Slot}
 use Rattle.cache.specs.declared.CacheState.{CacheState}
 use Rattle.cache.specs.Scan.{firstIndex}

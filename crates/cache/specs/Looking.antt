@@ -2,7 +2,7 @@
 use Prim.Native.Nat.{ℕ, _+_, _-_, _/_, _%_, min}
 use mathlib.Core.Bool.{cond}
 use mathlib.Core.List.{List, []}
-use lib.Dec.{ltb, leb}
+use lib.Dec.{leb}
 use Rattle.answer.specs.Coded.{Coded, done}
 use Rattle.answer.specs.Admission.{firstRefusal, ifDone}
 use Rattle.memory.specs.Bytes.{part}

@@ -1,6 +1,6 @@
 -- Mount and format: document 01, "The calls". Neither looks at the page frames or at the cache state.
 use Prim.Native.Nat.{ℕ, zero, suc, _+_, _-_}
-use mathlib.Core.Bool.{Bool, cond, not, _&&_}
+use mathlib.Core.Bool.{Bool, cond, _&&_}
 use mathlib.Core.List.{List, [], _∷_, _++_}
 use lib.Dec.{eqb}
 use Rattle.memory.specs.Bytes.{part}

@@ -1,7 +1,7 @@
 -- Truncate: document 01, "The calls".
 use Prim.Native.Nat.{ℕ, _+_, _-_, _*_, _/_, _%_}
 use mathlib.Core.Bool.{Bool, cond, _&&_}
-use mathlib.Core.List.{List, map}
+use mathlib.Core.List.{map}
 use lib.Dec.{eqb, leb}
 use Rattle.answer.specs.Coded.{done}
 use Rattle.memory.specs.Bytes.{zeros, overwrite}

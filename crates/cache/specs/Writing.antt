@@ -1,14 +1,13 @@
 -- Write: document 01, "The calls". Page by page, ascending.
 use Prim.Native.Nat.{ℕ, zero, suc, _+_, _-_, _*_, _/_, _%_, min, max}
-use mathlib.Core.Bool.{Bool, true, false, cond}
+use mathlib.Core.Bool.{Bool, true, cond}
 use mathlib.Core.List.{List, [], _∷_, _++_}
 use lib.Dec.{eqb, ltb, leb}
 use lib.ListN.{length, set, take, drop}
 use Rattle.answer.specs.Coded.{done, NO-ROOM}
-use Rattle.answer.specs.Admission.{Test, test}
+use Rattle.answer.specs.Admission.{test}
 use Rattle.memory.specs.Bytes.{zeros, part, overwrite}
 use Rattle.media.specs.Geometry.{pageBytes, fileBytes, pageStart}
-use Rattle.cache.specs.declared.Slot.{Slot}
 use Rattle.cache.specs.Device.{Device, deviceOf, slotCount, frameStart, slotOf, isCached, firstFree, logicalAt, floorAt, withSlots, withLogical}
 use Rattle.cache.specs.Admission.{Result, give, admit, fileTests}
 

@@ -1,13 +1,10 @@
 -- Demands 2 and 3, and the closed form behind demand 3, of this store.
-use mathlib.Core.Path.{_≡_, refl}
-use mathlib.Core.List.{List}
+use mathlib.Core.Path.{refl}
 use Prim.Native.Nat.{ℕ}
 use lib.Dec.{eqb}
 use borrow.Table.Steps.{cases}
 use Rattle.answer.specs.Coded.{Coded}
 use Rattle.answer.specs.Admission.{ifDone}
-use Rattle.media.specs.Geometry.{pagesPerFile}
-use Rattle.cache.specs.Device.{Device}
 use Rattle.model.specs.Run.{World, Event, step}
 use Rattle.model.specs.Run.Call.{read, look, write, truncate, sync, mount}
 use Rattle.model.specs.Run.Event.{call, powerLost}

@@ -1,5 +1,5 @@
 -- The edges, computed.
-use mathlib.Core.Path.{_≡_, refl}
+use mathlib.Core.Path.{refl}
 use Rattle.media.specs.Geometry.{fileStart}
 use Rattle.cache.specs.Sizes.{inOrder}
 use Rattle.cache.specs.Sound.{inRange, holdsAlone, isDown, soundTests, isSound}

@@ -1,13 +1,11 @@
 -- The invariant of a run: file by file, what the model file knows of the device.
-use mathlib.Core.Path.{_≡_, refl, sym, ap, _∙_, subst}
-use mathlib.Core.Logic.{_≢_, _⊎_, inl, inr}
-use mathlib.Core.Bool.{Bool, true, false, cond}
-use mathlib.Core.List.{List, [], _∷_, _++_}
-use Prim.Native.Nat.{ℕ, _+_, _-_, _*_, _≤_, _<_}
+use mathlib.Core.Path.{_≡_, sym, _∙_, subst}
+use mathlib.Core.Logic.{inl}
+use mathlib.Core.List.{List}
+use Prim.Native.Nat.{ℕ, _-_, _≤_, _<_}
 use native.Mathlib.Omega.{arith}
 use lib.ListN.{length, getD}
 use lib.Seq.{ext-getD}
-use Rattle.memory.specs.Bytes.{part}
 use Rattle.memory.proofs.Bytes.{length-part, getD-part}
 use Rattle.media.specs.Geometry.{files, fileBytes, mediaBytes, fileStart}
 use Rattle.media.specs.Write.{byteAt, sizeAt}
@@ -17,9 +15,9 @@ use Rattle.cache.specs.Current.{currentAt}
 use Rattle.cache.proofs.Sound.{Fit}
 use Rattle.cache.proofs.Admission.{Mountable}
 use Rattle.model.specs.ModelFile.{ModelFile}
-use Rattle.model.specs.Run.{Files, World}
+use Rattle.model.specs.Run.{Files}
 use Rattle.model.specs.States.{replay, State}
-use Rattle.model.specs.Store.{store, storeMedia}
+use Rattle.model.specs.Store.{storeMedia}
 
 module _ (P : ℕ) where
   -- ---- of one file

@@ -1,18 +1,15 @@
 -- A mount keeps the invariant, one that is done starts it, and it finds each file in one of its states.
 use mathlib.Core.Path.{_≡_, refl, sym, ap, _∙_}
-use mathlib.Core.Logic.{_≢_, _⊎_, inl, inr}
-use mathlib.Core.Bool.{Bool, true, false, cond, false≢true}
-use mathlib.Core.List.{List, [], _∷_}
+use mathlib.Core.Logic.{inl}
+use mathlib.Core.List.{List}
 use Prim.Native.Nat.{ℕ, _/_, _≤_, _<_}
 use native.Mathlib.Omega.{arith}
-use lib.Dec.{eqb}
 use lib.ListN.{length, getD, List·getD-eq-default}
 use borrow.Author.Tests.{ne-eqb}
-use Rattle.answer.specs.Coded.{Coded, done, CUT}
 use Rattle.memory.proofs.Cases.{split-lt}
 use Rattle.media.specs.Geometry.{files, pageBytes, fileBytes}
 use Rattle.media.specs.Write.{Media, byteAt, sizeAt}
-use Rattle.cache.specs.Device.{Device, deviceOf, slotCount, noSlots, slotOf, downState, mountedState}
+use Rattle.cache.specs.Device.{Device, deviceOf, slotCount, slotOf, downState, mountedState}
 use Rattle.cache.specs.Current.{currentAt}
 use Rattle.cache.specs.Admission.{Result}
 use Rattle.cache.specs.Mounting as Mounting
@@ -26,7 +23,7 @@ use Rattle.model.specs.Run.Call.{mount}
 use Rattle.model.specs.Claims.{IsDone}
 use Rattle.model.specs.States.{State}
 use Rattle.model.specs.Store.{storeMedia}
-use Rattle.model.proofs.Invariant.{Found, Mixed, Mounted, Invariant, on-media-size, on-media-byte, found-state}
+use Rattle.model.proofs.Invariant.{Found, Invariant, on-media-size, on-media-byte, found-state}
 use Rattle.model.proofs.Syncs.{zero-not-one}
 
 module _ (P : ℕ) (d : Device) (m : Media) (l : Left P d m) where

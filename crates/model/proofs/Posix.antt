@@ -1,40 +1,38 @@
 -- What each call gives where the invariant holds.
 use mathlib.Core.Path.{_≡_, refl, sym, ap, _∙_}
-use mathlib.Core.Logic.{_≢_, _⊎_, inl, inr}
-use mathlib.Core.Bool.{Bool, true, false, cond, _&&_, false≢true}
+use mathlib.Core.Logic.{_⊎_, inl, inr}
+use mathlib.Core.Bool.{Bool, true, false, cond}
 use mathlib.Core.List.{List, [], _∷_, _++_}
-use Prim.Native.Nat.{ℕ, _+_, _-_, _*_, _/_, _%_, _≤_, _<_, min}
+use Prim.Native.Nat.{ℕ, _+_, _-_, _%_, _≤_, _<_, min}
 use native.Mathlib.Omega.{arith}
-use lib.Dec.{eqb, leb, ltb}
-use lib.ListN.{length, getD, take, drop, length-take, length-drop}
+use lib.Dec.{eqb, leb}
+use lib.ListN.{length, getD, drop}
 use lib.Seq.{ext-getD}
 use borrow.Author.Tests.{eqb-true, leb-true, ne-eqb, le-leb}
 use Rattle.answer.specs.Coded.{Coded, done, CUT, NO-ROOM}
 use Rattle.answer.specs.Admission.{Test, test, firstRefusal, ifDone}
 use Rattle.memory.specs.Bytes.{part, overwrite}
-use Rattle.memory.proofs.Cases.{split-lt, split-eq}
+use Rattle.memory.proofs.Cases.{split-eq}
 use Rattle.memory.proofs.Bytes.{length-part, getD-part}
 use Rattle.media.specs.Geometry.{files, pageBytes, fileBytes}
-use Rattle.media.specs.Write.{sizeAt}
-use Rattle.cache.specs.Device.{Device, framesBytes, logicalAt, floorAt}
+use Rattle.cache.specs.Device.{Device, framesBytes, logicalAt}
 use Rattle.cache.specs.Current.{currentAt, currentBytes}
-use Rattle.cache.specs.Admission.{Result, give, admit, fileTests, mediaShape, sizesFit}
+use Rattle.cache.specs.Admission.{Result, fileTests, mediaShape, sizesFit}
 use Rattle.cache.specs.Reading.{readCount, read}
-use Rattle.cache.specs.Writing.{Written, putPages, grown, hasRoom, write}
-use Rattle.cache.specs.Truncating.{truncated, truncate}
-use Rattle.cache.specs.Syncing.{syncPlan, syncedState, underBudget, sync}
+use Rattle.cache.specs.Writing.{putPages, hasRoom, write}
+use Rattle.cache.specs.Truncating.{truncate}
+use Rattle.cache.specs.Syncing.{syncPlan, syncedState, sync}
 use Rattle.cache.specs.Mounting.{mountPlan, mount}
 use Rattle.cache.specs.Looking.{toPageEnd, lookCount, lookedAt, look}
-use Rattle.cache.proofs.Scan.{and-left, and-right}
 use Rattle.cache.proofs.Current.{length-current, current-at}
 use Rattle.cache.proofs.Sound.{Fit}
-use Rattle.cache.proofs.Admission.{passed, admit-by, admit-answer, first-by, first-all, first-after, passed-rest, file-alone, file-eight, file-admitted, file-admitted-more, file-passes, mount-passes}
-use Rattle.cache.proofs.Writing.{Stopped, write-leaves, write-stops, write-some, grown-room}
-use Rattle.cache.proofs.Syncing.{budget-by, budget-answer, syncedDevice, sync-done, synced-fit}
-use Rattle.cache.proofs.Truncating.{truncated-mounted}
+use Rattle.cache.proofs.Admission.{passed, admit-answer, first-all, first-after, file-passes, mount-passes}
+use Rattle.cache.proofs.Reading.{read-by}
+use Rattle.cache.proofs.Writing.{write-by, write-leaves, write-stops, write-some, grown-room}
+use Rattle.cache.proofs.Syncing.{sync-by, budget-answer, syncedDevice, sync-done, synced-fit}
+use Rattle.cache.proofs.Truncating.{truncate-by, truncated-mounted}
 use Rattle.cache.proofs.Mounting.{mount-by}
-use Rattle.cache.proofs.Looking.{looked-most, looked-current}
-use Rattle.model.specs.ModelFile.{ModelFile}
+use Rattle.cache.proofs.Looking.{look-by, looked-most, looked-current}
 use Rattle.model.specs.Run.{Files}
 use Rattle.model.specs.Claims.{IsDone}
 use Rattle.model.specs.Store.{storeMedia}
@@ -154,15 +152,13 @@ module _ (P : ℕ) (d : Device) (fs : Files) (inv : Invariant P d fs) where
       let r : Result (List ℕ) = read P f position buffer d in
       (IsDone (r .answer) → r .answer .count ≡ min (length buffer) (length (fs f .current) - position))
       × (r .left ≡ ifDone (r .answer) (overwrite buffer 0 (part (fs f .current) position (r .answer .count))) buffer)
-  unfolding read file
+  unfolding file
   read-posix f position buffer =
-      admit-by buffer
+      read-by P f position buffer d
       (λ r. (IsDone (r .answer) → r .answer .count ≡ min (length buffer) (length (fs f .current) - position))
       × (r .left ≡ ifDone (r .answer) (overwrite buffer 0 (part (fs f .current) position (r .answer .count))) buffer))
-      (fileTests P d f (leb position (fileBytes P))) _ (file-alone P d f (leb position (fileBytes P)))
       (λ k lo hi. (λ z. absurd (omega arith), rw (ne-eqb k 0 (λ e. (omega arith)))))
-      (λ e.
-      let ad = file-admitted P d f (leb position (fileBytes P)) e in (
+      (λ ad. (
         λ _. rw (size-is f (ad .file) (ad .mounted)),
         ap (overwrite buffer 0) (current-part f (ad .file) (ad .mounted) position (readCount d f position (length buffer)) (omega arith)),
       ))
@@ -173,18 +169,14 @@ module _ (P : ℕ) (d : Device) (fs : Files) (inv : Invariant P d fs) where
       (IsDone a → a .count ≡ min (pageBytes - position % pageBytes) (length (fs f .current) - position))
       × (length output ≤ a .count)
       × (output ≡ part (fs f .current) position (length output))
-  unfolding lookCount look file
+  unfolding file
   look-posix f position =
-      first-by
-      (λ a. (IsDone a → a .count ≡ min (pageBytes - position % pageBytes) (length (fs f .current) - position))
-      × (length (ifDone a (lookedAt P f position d) []) ≤ a .count)
-      × (ifDone a (lookedAt P f position d) [] ≡ part (fs f .current) position (length (ifDone a (lookedAt P f position d) []))))
-      (fileTests P d f (leb position (fileBytes P))) _ (file-alone P d f (leb position (fileBytes P)))
-      (λ k lo hi.
-      let e : eqb k 0 ≡ false = ne-eqb k 0 (λ e. (omega arith)) in
-      (λ z. absurd (omega arith), rw e (omega arith), rw e))
-      (λ e.
-      let ad = file-admitted P d f (leb position (fileBytes P)) e in (
+      look-by P f position d
+      (λ a output. (IsDone a → a .count ≡ min (pageBytes - position % pageBytes) (length (fs f .current) - position))
+      × (length output ≤ a .count)
+      × (output ≡ part (fs f .current) position (length output)))
+      (λ k lo hi. (λ z. absurd (omega arith), omega arith, refl))
+      (λ ad. (
         λ _. rw (size-is f (ad .file) (ad .mounted)),
         looked-most P d f position (inv .fit (ad .mounted) .sizes .floor-logical f (ad .file)),
         looked-part f (ad .file) (ad .mounted) position,
@@ -197,21 +189,15 @@ module _ (P : ℕ) (d : Device) (fs : Files) (inv : Invariant P d fs) where
       (n ≡ length bytes)
       ⊎ ((0 < n) × (n < length bytes) × ((position + n) % pageBytes ≡ 0)
       × (firstRefusal (test (hasRoom (r .left) f (position + n) (drop n bytes)) NO-ROOM ∷ []) (done 0) ≡ NO-ROOM))
-  unfolding write
   write-posix f position bytes =
-      let range : Bool = leb (position + length bytes) (fileBytes P) in
-      let us : List Test = test (hasRoom d f position bytes) NO-ROOM ∷ [] in
-      admit-by d
+      write-by P f position bytes d
       (λ r. IsDone (r .answer) →
       (r .answer .count ≡ length bytes)
       ⊎ ((0 < r .answer .count) × (r .answer .count < length bytes) × ((position + r .answer .count) % pageBytes ≡ 0)
       × (firstRefusal (test (hasRoom (r .left) f (position + r .answer .count) (drop (r .answer .count) bytes)) NO-ROOM ∷ []) (done 0) ≡ NO-ROOM)))
-      (fileTests P d f range ++ us) _ (file-eight P d f range us ((8, omega arith, omega arith, refl), tt))
       (λ k lo hi z. absurd (omega arith))
-      (λ e z.
-      let ad = file-admitted-more P d f range us e in
+      (λ ad room z.
       let fits : position + length bytes ≤ fileBytes P = leb-true _ _ (ad .in-range) in
-      let room : hasRoom d f position bytes ≡ true = and-left _ true (passed-rest (fileTests P d f range) us e) in
       elim (write-stops P f P position bytes d (omega arith)) [
         | inl h ↦ inl h
         | inr s ↦
@@ -220,29 +206,21 @@ module _ (P : ℕ) (d : Device) (fs : Files) (inv : Invariant P d fs) where
       ])
 
   pub truncate-posix : (f n : ℕ) → IsDone (truncate P f n d .answer) → truncate P f n d .answer .count ≡ 0
-  unfolding truncate
-  truncate-posix f n =
-      admit-by d (λ r. IsDone (r .answer) → r .answer .count ≡ 0) (fileTests P d f (leb n (fileBytes P))) _ (file-alone P d f (leb n (fileBytes P)))
-      (λ k lo hi z. absurd (omega arith)) (λ e z. refl)
+  truncate-posix f n = truncate-by P f n d (λ r. IsDone (r .answer) → r .answer .count ≡ 0) (λ k lo hi z. absurd (omega arith)) (λ ad z. refl)
 
   pub sync-posix : (f budget : ℕ) → IsDone (sync P f budget d .answer) → storeMedia P (sync P f budget d .left) f ≡ fs f .current
-  unfolding sync
   sync-posix f budget =
-      let Q : Result Device → Type 0 = λ r. IsDone (r .answer) → storeMedia P (r .left) f ≡ fs f .current in
-      admit-by d Q (fileTests P d f true) _ (file-alone P d f true)
+      sync-by P f budget d (λ r. IsDone (r .answer) → storeMedia P (r .left) f ≡ fs f .current)
       (λ k lo hi z. absurd (omega arith))
-      (λ e.
-      let ad = file-admitted P d f true e in
+      (λ ad l z. absurd (omega arith))
+      (λ ad l z.
       let r = ready P d fs f inv (ad .mounted) (ad .frames) (ad .file) in
       let y : Mounted P d f (fs f) = inv .mounted (ad .mounted) f (ad .file) in
-      budget-by P budget (syncPlan P d f) (syncedState d f) d Q
-      (λ l z. absurd (omega arith))
-      (λ l z.
       let s = sync-done P d f r in
       let fit : Fit P (syncedDevice P d f) = synced-fit P d f r in
       sym
       (on-media-is P (syncedDevice P d f) f (fit .bytes) (ad .file) (fit .sizes .stored-fits f (ad .file)) (fs f .current) (y .current-size ∙ sym (s .stored))
-      (λ i h. let hi : i < fileBytes P = omega (arith, fit .sizes .stored-fits f (ad .file)) in y .current-is i hi ∙ sym (s .byte i hi)))))
+      (λ i h. let hi : i < fileBytes P = omega (arith, fit .sizes .stored-fits f (ad .file)) in y .current-is i hi ∙ sym (s .byte i hi))))
 
   -- ---- mounted or down
 
@@ -250,33 +228,26 @@ module _ (P : ℕ) (d : Device) (fs : Files) (inv : Invariant P d fs) where
   up c = eqb (c .cache .mounted) 1
 
   pub write-mounted : (f position : ℕ) (bytes : List ℕ) → up (write P f position bytes d .left) ≡ up d
-  unfolding write
   write-mounted f position bytes =
-      let range : Bool = leb (position + length bytes) (fileBytes P) in
-      let us : List Test = test (hasRoom d f position bytes) NO-ROOM ∷ [] in
-      admit-by d (λ r. up (r .left) ≡ up d) (fileTests P d f range ++ us) _ (file-eight P d f range us ((8, omega arith, omega arith, refl), tt))
+      write-by P f position bytes d (λ r. up (r .left) ≡ up d)
       (λ k lo hi. refl)
-      (λ e.
-      let ad = file-admitted-more P d f range us e in
+      (λ ad room.
       let w = write-leaves P d (inv .fit (ad .mounted)) (ad .frames) f position bytes (ad .file) (leb-true _ _ (ad .in-range)) in
       ap (λ (k : ℕ). eqb k 1) (w .1 .mounted))
 
   pub truncate-mounted : (f n : ℕ) → up (truncate P f n d .left) ≡ up d
-  unfolding truncate
   truncate-mounted f n =
-      admit-by d (λ r. up (r .left) ≡ up d) (fileTests P d f (leb n (fileBytes P))) _ (file-alone P d f (leb n (fileBytes P)))
+      truncate-by P f n d (λ r. up (r .left) ≡ up d)
       (λ k lo hi. refl)
-      (λ e.
-      let ad = file-admitted P d f (leb n (fileBytes P)) e in
-      ap (λ (k : ℕ). eqb k 1) (truncated-mounted P d (inv .fit (ad .mounted)) (ad .frames) f n (ad .file)))
+      (λ ad. ap (λ (k : ℕ). eqb k 1) (truncated-mounted P d (inv .fit (ad .mounted)) (ad .frames) f n (ad .file)))
 
   pub sync-mounted : (f budget : ℕ) → let r : Result Device = sync P f budget d in up (r .left) ≡ cond (eqb (r .answer .number) 9) false (up d)
-  unfolding sync syncedState
+  unfolding syncedState
   sync-mounted f budget =
-      let Q : Result Device → Type 0 = λ r. up (r .left) ≡ cond (eqb (r .answer .number) 9) false (up d) in
-      admit-by d Q (fileTests P d f true) _ (file-alone P d f true)
+      sync-by P f budget d (λ r. up (r .left) ≡ cond (eqb (r .answer .number) 9) false (up d))
       (λ k lo hi. let e : eqb k 9 ≡ false = ne-eqb k 9 (λ e. (omega arith)) in rw e)
-      (λ e. budget-by P budget (syncPlan P d f) (syncedState d f) d Q (λ l. refl) (λ l. refl))
+      (λ ad l. refl)
+      (λ ad l. refl)
 
   pub mount-mounted : (budget : ℕ) → let r : Result Device = mount P budget d in up (r .left) ≡ cond (eqb (r .answer .number) 9) false (ifDone (r .answer) true (up d))
   mount-mounted budget =

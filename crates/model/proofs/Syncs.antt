@@ -1,31 +1,28 @@
 -- A sync keeps the invariant, cut or done.
-use mathlib.Core.Path.{_≡_, refl, sym, ap, _∙_}
-use mathlib.Core.Logic.{_≢_, _⊎_, inl, inr}
-use mathlib.Core.Bool.{Bool, true, false, cond}
-use mathlib.Core.List.{List, [], _∷_, _++_}
+use mathlib.Core.Path.{_≡_, refl, sym, _∙_}
+use mathlib.Core.Logic.{_≢_, inl, inr}
+use mathlib.Core.List.{List}
 use Prim.Native.Nat.{ℕ, _*_, _≤_, _<_}
 use native.Mathlib.Omega.{arith}
-use lib.Dec.{eqb}
-use lib.ListN.{length, getD, take, List·getD-eq-default}
+use lib.ListN.{length, take, List·getD-eq-default}
 use borrow.Author.Tests.{eq-eqb, ne-eqb}
-use Rattle.answer.specs.Coded.{Coded}
 use Rattle.memory.proofs.Cases.{split-lt, split-eq}
 use Rattle.media.specs.Geometry.{files, pageBytes, fileBytes}
-use Rattle.media.specs.Write.{Media, MediaWrite, byteAt, sizeAt, applyAll, All}
+use Rattle.media.specs.Write.{Media, sizeAt, applyAll, All}
 use Rattle.media.proofs.Write.{all-bytes-stay, all-sizes-stay}
 use Rattle.cache.specs.Device.{Device, deviceOf, framesBytes, logicalAt, floorAt, downState}
 use Rattle.cache.specs.Current.{currentAt}
-use Rattle.cache.specs.Admission.{Result, fileTests}
+use Rattle.cache.specs.Admission.{Result}
 use Rattle.cache.specs.Syncing as Syncing
-use Rattle.cache.specs.Syncing.{syncPlan, syncedState}
+use Rattle.cache.specs.Syncing.{syncPlan}
 use Rattle.cache.proofs.Sound.{Fit}
-use Rattle.cache.proofs.Admission.{admit-by, Mountable, file-alone, file-admitted}
-use Rattle.cache.proofs.Syncing.{Own, all-take, budget-by, plan-own, own-other-byte, own-other-size, Ready, CutAt, Stored, boundary, sync-cut, sync-done, syncedDevice, synced-logical, synced-floor, synced-floor-other, synced-byte-other, synced-size-other, synced-own, synced-other, synced-fit}
-use Rattle.model.specs.ModelFile.{ModelFile, afterSync}
+use Rattle.cache.proofs.Admission.{Mountable}
+use Rattle.cache.proofs.Syncing.{Own, all-take, sync-by, plan-own, own-other-byte, own-other-size, Ready, CutAt, Stored, boundary, sync-cut, sync-done, syncedDevice, synced-logical, synced-floor, synced-floor-other, synced-byte-other, synced-size-other, synced-own, synced-other, synced-fit}
+use Rattle.model.specs.ModelFile.{afterSync}
 use Rattle.model.specs.Run.{Files, change, feed}
 use Rattle.model.specs.Run.Call.{sync}
 use Rattle.model.specs.States.{replay}
-use Rattle.model.proofs.Invariant.{Found, Mixed, Mounted, Invariant, SameStored, SameFile, same-found, same-mounted}
+use Rattle.model.proofs.Invariant.{Found, Mounted, Invariant, SameStored, SameFile, same-found, same-mounted}
 
 pub zero-not-one : _≡_ {A = ℕ} 0 1 → ⊥
 zero-not-one e = omega arith
@@ -168,18 +165,11 @@ module _ (P : ℕ) (d : Device) (fs : Files) (f : ℕ) (inv : Invariant P d fs) 
             (λ ne. rw (ne-eqb g f ne) (same-mounted P (done-other g ne hg) (inv .mounted up g hg)));
       }
 
-module _ (P : ℕ) (d : Device) (fs : Files) (f budget : ℕ) (inv : Invariant P d fs) where
-  pub keeps-sync : (found : Device → ℕ → List ℕ) →
-      let r : Result Device = Syncing.sync P f budget d in
-      Invariant P (r .left) (feed (sync f budget) (r .answer) (found (r .left)) fs)
-  unfolding Syncing.sync
-  keeps-sync found =
-      let Q : Result Device → Type 0 = λ r. Invariant P (r .left) (feed (sync f budget) (r .answer) (found (r .left)) fs) in
-      admit-by d Q (fileTests P d f true) _ (file-alone P d f true)
-      (λ k lo hi. rw (ne-eqb k 0 (λ e. (omega arith))) inv)
-      (λ e.
-      let ad = file-admitted P d f true e in
-      let r : Ready P d f = ready P d fs f inv (ad .mounted) (ad .frames) (ad .file) in
-      budget-by P budget (syncPlan P d f) (syncedState d f) d Q
-      (λ l. cut-keeps P d fs f inv (ad .mounted) r budget l)
-      (λ l. done-keeps P d fs f inv (ad .mounted) r))
+pub keeps-sync : (P : ℕ) (d : Device) (fs : Files) (f budget : ℕ) → Invariant P d fs → (found : Device → ℕ → List ℕ) →
+    let r : Result Device = Syncing.sync P f budget d in
+    Invariant P (r .left) (feed (sync f budget) (r .answer) (found (r .left)) fs)
+keeps-sync P d fs f budget inv found =
+    sync-by P f budget d (λ r. Invariant P (r .left) (feed (sync f budget) (r .answer) (found (r .left)) fs))
+    (λ k lo hi. rw (ne-eqb k 0 (λ e. (omega arith))) inv)
+    (λ ad l. cut-keeps P d fs f inv (ad .mounted) (ready P d fs f inv (ad .mounted) (ad .frames) (ad .file)) budget l)
+    (λ ad l. done-keeps P d fs f inv (ad .mounted) (ready P d fs f inv (ad .mounted) (ad .frames) (ad .file)))

@@ -1,31 +1,27 @@
 -- A truncate keeps the invariant.
-use mathlib.Core.Path.{_≡_, refl, sym, ap, _∙_}
+use mathlib.Core.Path.{_≡_, refl, sym, _∙_}
 use mathlib.Core.Logic.{_≢_}
-use mathlib.Core.Bool.{Bool, true, false, cond}
-use mathlib.Core.List.{List, [], _∷_, _++_}
+use mathlib.Core.List.{List}
 use Prim.Native.Nat.{ℕ, _≤_, _<_, min}
 use native.Mathlib.Omega.{arith}
-use lib.Dec.{eqb, leb, ltb}
-use lib.ListN.{length, getD}
+use lib.ListN.{length}
 use borrow.Author.Tests.{leb-true, eq-eqb, ne-eqb, lt-ltb, le-ltb}
 use Rattle.memory.proofs.Cases.{split-lt, split-eq}
 use Rattle.media.specs.Geometry.{files, fileBytes}
-use Rattle.media.specs.Write.{byteAt, sizeAt}
-use Rattle.cache.specs.Device.{Device, framesBytes, logicalAt, floorAt}
+use Rattle.cache.specs.Device.{Device, framesBytes, floorAt}
 use Rattle.cache.specs.Current.{currentAt}
-use Rattle.cache.specs.Admission.{Result, mediaShape, framesShape, sizesFit, stateTests, fileTests}
+use Rattle.cache.specs.Admission.{Result}
 use Rattle.cache.specs.Truncating as Truncating
 use Rattle.cache.specs.Truncating.{truncated}
 use Rattle.cache.proofs.Sound.{Fit}
-use Rattle.cache.proofs.Admission.{admit-by, Mountable, file-alone, file-admitted}
-use Rattle.cache.proofs.Truncating.{truncated-logical, truncated-floor, truncated-sizes-other, truncated-fit, truncated-media, truncated-mounted, truncated-below, truncated-past, truncated-other}
-use Rattle.model.specs.ModelFile.{Entry, ModelFile, posixTruncate, afterTruncate}
+use Rattle.cache.proofs.Truncating.{truncate-by, truncated-logical, truncated-floor, truncated-sizes-other, truncated-fit, truncated-media, truncated-below, truncated-past, truncated-other}
+use Rattle.model.specs.ModelFile.{ModelFile, afterTruncate}
 use Rattle.model.specs.ModelFile.Entry.{truncated as truncatedTo}
 use Rattle.model.specs.Run.{Files, change, feed}
 use Rattle.model.specs.Run.Call.{truncate}
 use Rattle.model.specs.States.{redo, replay}
 use Rattle.model.proofs.ModelFile.{length-truncate, truncate-below, truncate-past, replay-one-more}
-use Rattle.model.proofs.Invariant.{Found, Mixed, Mounted, Invariant, SameStored, SameFile, same-found, same-mounted, mounted-found}
+use Rattle.model.proofs.Invariant.{Mixed, Mounted, Invariant, SameStored, SameFile, same-found, same-mounted, mounted-found}
 
 module _ (P : ℕ) (d : Device) (x : Fit P d) (frames : length (d .frames) ≡ framesBytes) (f n : ℕ) (hf : f < files) (hn : n ≤ fileBytes P) where
   abbrev c : Device
@@ -94,16 +90,10 @@ module _ (P : ℕ) (d : Device) (x : Fit P d) (frames : length (d .frames) ≡ f
             (λ ne. rw (ne-eqb g f ne) (same-mounted P (other-file g ne) (inv .mounted up g hg)));
       }
 
-module _ (P : ℕ) (d : Device) (fs : Files) (f n : ℕ) (inv : Invariant P d fs) where
-  pub keeps-truncate : (found : Device → ℕ → List ℕ) →
-      let r : Result Device = Truncating.truncate P f n d in
-      Invariant P (r .left) (feed (truncate f n) (r .answer) (found (r .left)) fs)
-  unfolding Truncating.truncate
-  keeps-truncate found =
-      admit-by d (λ r. Invariant P (r .left) (feed (truncate f n) (r .answer) (found (r .left)) fs))
-      (fileTests P d f (leb n (fileBytes P))) _
-      (file-alone P d f (leb n (fileBytes P)))
-      (λ k lo hi. rw (ne-eqb k 0 (λ e. (omega arith))) inv)
-      (λ e.
-      let ad = file-admitted P d f (leb n (fileBytes P)) e in
-      truncated-keeps P d (inv .fit (ad .mounted)) (ad .frames) f n (ad .file) (leb-true _ _ (ad .in-range)) fs (ad .mounted) inv)
+pub keeps-truncate : (P : ℕ) (d : Device) (fs : Files) (f n : ℕ) → Invariant P d fs → (found : Device → ℕ → List ℕ) →
+    let r : Result Device = Truncating.truncate P f n d in
+    Invariant P (r .left) (feed (truncate f n) (r .answer) (found (r .left)) fs)
+keeps-truncate P d fs f n inv found =
+    truncate-by P f n d (λ r. Invariant P (r .left) (feed (truncate f n) (r .answer) (found (r .left)) fs))
+    (λ k lo hi. rw (ne-eqb k 0 (λ e. (omega arith))) inv)
+    (λ ad. truncated-keeps P d (inv .fit (ad .mounted)) (ad .frames) f n (ad .file) (leb-true _ _ (ad .in-range)) fs (ad .mounted) inv)

@@ -1,33 +1,26 @@
 -- A write keeps the invariant.
-use mathlib.Core.Path.{_≡_, refl, sym, ap, _∙_}
-use mathlib.Core.Logic.{_≢_, inl}
-use mathlib.Core.Bool.{Bool, true, false, cond}
-use mathlib.Core.List.{List, [], _∷_, _++_}
+use mathlib.Core.Path.{_≡_, refl, sym, _∙_}
+use mathlib.Core.Logic.{_≢_}
+use mathlib.Core.List.{List}
 use Prim.Native.Nat.{ℕ, _+_, _-_, _≤_, _<_, min, max}
 use native.Mathlib.Omega.{arith}
-use lib.Dec.{eqb, leb}
 use lib.ListN.{length, getD, take, length-take}
 use lib.Seq.{getD-take, length-take-le}
 use borrow.Author.Tests.{leb-true, eq-eqb, ne-eqb}
-use Rattle.answer.specs.Coded.{Coded, NO-ROOM}
-use Rattle.answer.specs.Admission.{test}
 use Rattle.memory.proofs.Cases.{split-lt, split-eq}
-use Rattle.media.specs.Geometry.{files, fileBytes}
-use Rattle.media.specs.Write.{byteAt, sizeAt}
+use Rattle.media.specs.Geometry.{files}
 use Rattle.cache.specs.Device.{Device, logicalAt, floorAt}
-use Rattle.cache.specs.Current.{currentAt}
-use Rattle.cache.specs.Admission.{Result, fileTests}
+use Rattle.cache.specs.Admission.{Result}
 use Rattle.cache.specs.Writing as Writing
-use Rattle.cache.proofs.Admission.{admit-by, Mountable, file-eight, file-admitted-more}
-use Rattle.cache.proofs.Writing.{Leaves, write-leaves}
-use Rattle.model.specs.ModelFile.{Entry, ModelFile, lay, afterWrite}
+use Rattle.cache.proofs.Admission.{Mountable}
+use Rattle.cache.proofs.Writing.{write-by, Leaves, write-leaves}
+use Rattle.model.specs.ModelFile.{ModelFile, afterWrite}
 use Rattle.model.specs.ModelFile.Entry.{written}
 use Rattle.model.specs.Run.{Files, change, feed}
 use Rattle.model.specs.Run.Call.{write}
 use Rattle.model.specs.States.{redo, replay}
-use Rattle.model.specs.Store.{storeMedia}
 use Rattle.model.proofs.ModelFile.{length-lay, lay-in, lay-before, lay-after, write-none, write-some, logged-none, logged-some, replay-one-more}
-use Rattle.model.proofs.Invariant.{Found, Mixed, Mounted, Invariant, SameStored, SameFile, same-found, same-mounted, mounted-found}
+use Rattle.model.proofs.Invariant.{Mixed, Mounted, Invariant, SameStored, SameFile, same-found, same-mounted, mounted-found}
 
 module _ (P : ℕ) (d c : Device) (f position n : ℕ) (bytes : List ℕ) (hf : f < files) (hn : n ≤ length bytes) (w : Leaves P f position n bytes d c) where
   same-stored : (g : ℕ) → SameStored P d c g
@@ -146,17 +139,13 @@ module _ (P : ℕ) (d c : Device) (f position n : ℕ) (bytes : List ℕ) (hf : 
             (λ ne. rw (ne-eqb g f ne) (same-mounted P (other-file g ne) (inv .mounted up g hg)));
       }
 
-module _ (P : ℕ) (d : Device) (fs : Files) (f position : ℕ) (bytes : List ℕ) (inv : Invariant P d fs) where
-  pub keeps-write : (found : Device → ℕ → List ℕ) →
-      let r : Result Device = Writing.write P f position bytes d in
-      Invariant P (r .left) (feed (write f position bytes) (r .answer) (found (r .left)) fs)
-  unfolding Writing.write put
-  keeps-write found =
-      admit-by d (λ r. Invariant P (r .left) (feed (write f position bytes) (r .answer) (found (r .left)) fs))
-      (fileTests P d f (leb (position + length bytes) (fileBytes P)) ++ (test (Writing.hasRoom d f position bytes) NO-ROOM ∷ [])) _
-      (file-eight P d f (leb (position + length bytes) (fileBytes P)) _ ((8, omega arith, omega arith, refl), tt))
-      (λ k lo hi. rw (ne-eqb k 0 (λ e. (omega arith))) inv)
-      (λ e.
-      let ad = file-admitted-more P d f (leb (position + length bytes) (fileBytes P)) _ e in
-      let w = write-leaves P d (inv .fit (ad .mounted)) (ad .frames) f position bytes (ad .file) (leb-true _ _ (ad .in-range)) in
-      written-keeps P d _ f position _ bytes (ad .file) (w .0) (w .1) fs (ad .mounted) inv)
+pub keeps-write : (P : ℕ) (d : Device) (fs : Files) (f position : ℕ) (bytes : List ℕ) → Invariant P d fs → (found : Device → ℕ → List ℕ) →
+    let r : Result Device = Writing.write P f position bytes d in
+    Invariant P (r .left) (feed (write f position bytes) (r .answer) (found (r .left)) fs)
+unfolding put
+keeps-write P d fs f position bytes inv found =
+    write-by P f position bytes d (λ r. Invariant P (r .left) (feed (write f position bytes) (r .answer) (found (r .left)) fs))
+    (λ k lo hi. rw (ne-eqb k 0 (λ e. (omega arith))) inv)
+    (λ ad room.
+    let w = write-leaves P d (inv .fit (ad .mounted)) (ad .frames) f position bytes (ad .file) (leb-true _ _ (ad .in-range)) in
+    written-keeps P d _ f position _ bytes (ad .file) (w .0) (w .1) fs (ad .mounted) inv)

@@ -10,7 +10,7 @@ use Rattle.answer.specs.Coded.{Coded, done, refused, NO-ROOM, CUT}
 use Rattle.answer.specs.Admission.{firstRefusal, ifDone}
 use Rattle.memory.specs.Bytes.{part, overwrite}
 use Rattle.media.specs.Geometry.{files, pageBytes}
-use Rattle.model.specs.ModelFile.{ModelFile, Becomes}
+use Rattle.model.specs.ModelFile.{Becomes}
 use Rattle.model.specs.Run.{Call, Reply, Interface, World, Event, start, Throughout}
 use Rattle.model.specs.Run.Call.{read, look, write, truncate, sync, mount}
 use Rattle.model.specs.Run.Event.{call, powerLost}

@@ -1,22 +1,20 @@
 -- Wrong stores, and that the demands rule each of them out: those of document 01, "Conditions of acceptance", and its traps.
 -- Each is this store with one call changed, at one or two pages in a file.
-use Prim.Native.Nat.{ℕ, zero, suc, _<_, min}
-use mathlib.Core.Bool.{Bool, true, cond, not, _&&_}
+use Prim.Native.Nat.{ℕ, suc, min}
+use mathlib.Core.Bool.{true, cond, _&&_}
 use mathlib.Core.List.{List, [], _∷_, _++_, map}
-use lib.Dec.{eqb, ltb, leb}
+use lib.Dec.{eqb, leb}
 use lib.ListN.{length}
-use Rattle.answer.specs.Coded.{Coded, done, DOWN, NO-ROOM, CUT}
+use Rattle.answer.specs.Coded.{done, DOWN, NO-ROOM, CUT}
 use Rattle.memory.specs.Bytes.{zeros, part}
 use Rattle.media.specs.Geometry.{pageBytes, fileBytes}
 use Rattle.media.specs.Write.{MediaWrite, sizeAt}
 use Rattle.media.specs.Write.MediaWrite.{page}
 use Rattle.cache.specs.declared.Slot.{Slot}
-use Rattle.cache.specs.declared.FileSizes.{FileSizes}
-use Rattle.cache.specs.Device.{Device, deviceOf, frameStart, freeWhere, logicalAt, floorAt, withSlots, downState, mountedState}
-use Rattle.cache.specs.Sound.{sizesOf}
+use Rattle.cache.specs.Device.{Device, deviceOf, frameStart, freeWhere, logicalAt, withSlots, downState, mountedState}
 use Rattle.cache.specs.Admission.{Result, give, admit, mediaShape, sizesFit, fileTests}
 use Rattle.cache.specs.Truncating.{pagesFrom, clearTail, withSizes}
-use Rattle.cache.specs.Syncing.{trimWrites, pageWrites, sizeWrites, syncPlan, syncedState, underBudget}
+use Rattle.cache.specs.Syncing.{trimWrites, pageWrites, sizeWrites, syncedState, underBudget}
 use Rattle.model.specs.Run.{Interface}
 use Rattle.model.specs.Claims.{Demand2, Demand3}
 use Rattle.model.specs.Store.{Calls, storeWith, storeCalls}

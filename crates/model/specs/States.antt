@@ -9,7 +9,7 @@ use lib.ListN.{length, take}
 use Rattle.media.specs.Geometry.{files, pageBytes}
 use Rattle.model.specs.ModelFile.{Entry, ModelFile, posixWrite, posixTruncate}
 use Rattle.model.specs.ModelFile.Entry.{written, truncated}
-use Rattle.model.specs.Run.{Call, Reply, Interface, World, Event, start, Throughout}
+use Rattle.model.specs.Run.{Reply, Interface, World, Event, start, Throughout}
 use Rattle.model.specs.Run.Call.{read, look, write, truncate, sync, mount}
 use Rattle.model.specs.Run.Event.{call, powerLost}
 use Rattle.model.specs.Claims.{IsDone}

@@ -3,11 +3,11 @@ use Prim.Native.Nat.{ℕ}
 use mathlib.Core.List.{List, [], _∷_}
 use lib.Dec.{eqb, leb}
 use lib.ListN.{length}
-use Rattle.answer.specs.Coded.{Coded, NO-ROOM, CUT}
+use Rattle.answer.specs.Coded.{NO-ROOM, CUT}
 use Rattle.answer.specs.Admission.{Test, test}
 use Rattle.memory.specs.Bytes.{part}
 use Rattle.media.specs.Geometry.{fileBytes, fileStart}
-use Rattle.media.specs.Write.{MediaWrite, sizeAt}
+use Rattle.media.specs.Write.{sizeAt}
 use Rattle.cache.specs.Device.{Device, deviceOf, framesBytes, downState}
 use Rattle.cache.specs.Admission.{Result, give}
 use Rattle.cache.specs.Reading as Reading
