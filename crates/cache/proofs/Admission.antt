@@ -128,12 +128,16 @@ module _ (P : ℕ) (d : Device) where
   file-passes f range x up fr hf hr =
       rw (eq-eqb _ _ (x .bytes), eq-eqb _ _ (x .sizes .stored-count), eq-eqb _ _ fr, fits-all x, fit-sound P d x up, eq-eqb _ _ up, lt-ltb _ _ hf, hr)
 
-  -- ---- mount
+  -- ---- mount and format
 
   pub record Mountable : Type 0 where
     pub bytes : length (d .media .bytes) ≡ mediaBytes P
     pub sizes : length (d .media .sizes) ≡ files
     pub fit : (f : ℕ) → f < files → getD (d .media .sizes) f 0 ≤ fileBytes P
+
+  pub shape-eight : Eight (mediaShape P d)
+  unfolding mediaShape
+  shape-eight = ((2, omega arith, omega arith, refl), ((2, omega arith, omega arith, refl), tt))
 
   pub mount-eight : Eight (mediaShape P d ++ sizesFit P d)
   unfolding mediaShape sizesFit

@@ -22,9 +22,9 @@ use Rattle.media.proofs.Geometry.{file-end}
 use Rattle.media.proofs.Write.{bytes-stay, sizes-stay, byte-after-trim, size-after-trim, all-bytes-stay, all-sizes-stay}
 use Rattle.cache.specs.Device.{Device, deviceOf, downState, mountedState}
 use Rattle.cache.specs.Admission.{Result, give, mediaShape, sizesFit}
-use Rattle.cache.specs.Mounting.{trimsFrom, zeroFrom, mountPlan, mount, formatPlan}
+use Rattle.cache.specs.Mounting.{trimsFrom, zeroFrom, mountPlan, mount, formatPlan, format}
 use Rattle.cache.proofs.Scan.{and-left, and-right, every-at}
-use Rattle.cache.proofs.Admission.{admit-by, Mountable, mount-eight, mount-admitted}
+use Rattle.cache.proofs.Admission.{admit-by, Mountable, shape-eight, mount-eight, mount-admitted}
 use Rattle.cache.proofs.Syncing.{budget-by}
 
 module _ (P : ℕ) where
@@ -256,13 +256,13 @@ module _ (P : ℕ) where
     mount-own = trims-own (d .media) _ (sizeAt (d .media)) (x .fit) mount-ordered files 0 (omega arith)
 
   -- a mount is refused, cut or done
-  pub mount-by : (Q : Result Device → Type 0) (budget : ℕ) (d : Device)
+  pub mount-by : (budget : ℕ) (d : Device) (Q : Result Device → Type 0)
       → ((k : ℕ) → 0 < k → k < 9 → Q (give (refused k) d))
       → ((c : Media) → Left d c → Q (give (CUT budget) (deviceOf c (d .frames) downState)))
       → ((c : Media) (n : ℕ) → Left d c → Clean d c → Q (give (done n) (deviceOf c (d .frames) (mountedState (d .media .sizes)))))
       → Q (mount P budget d)
   unfolding mount
-  mount-by Q budget d fails cut finished =
+  mount-by budget d Q fails cut finished =
       admit-by d Q (mediaShape P d ++ sizesFit P d) _ (mount-eight P d) fails (λ e.
       let x = mount-admitted P d e in
       budget-by P budget (mountPlan P (d .media)) (mountedState (d .media .sizes)) d Q
@@ -288,3 +288,15 @@ module _ (P : ℕ) where
     pub format-own : All (InLimits P) (formatPlan P m)
     unfolding formatPlan
     format-own = trims-own m _ (λ f. 0) (λ f h. (omega arith)) format-ordered files 0 (omega arith)
+
+  -- a format is refused with everything as it came, cut, or done; it is down in the end
+  pub format-by : (budget : ℕ) (d : Device) (Q : Result Device → Type 0)
+      → ((k : ℕ) → 0 < k → k < 9 → Q (give (refused k) d))
+      → (budget < length (formatPlan P (d .media))
+      → Q (give (CUT budget) (deviceOf (applyAll P (d .media) (take budget (formatPlan P (d .media)))) (d .frames) downState)))
+      → (length (formatPlan P (d .media)) ≤ budget
+      → Q (give (done (length (formatPlan P (d .media)))) (deviceOf (applyAll P (d .media) (formatPlan P (d .media))) (d .frames) downState)))
+      → Q (format P budget d)
+  unfolding format
+  format-by budget d Q fails cut finished =
+      admit-by d Q (mediaShape P d) _ (shape-eight P d) fails (λ e. budget-by P budget (formatPlan P (d .media)) downState d Q cut finished)

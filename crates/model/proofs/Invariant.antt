@@ -1,11 +1,13 @@
 -- The invariant of a run: file by file, what the model file knows of the device.
-use mathlib.Core.Path.{_≡_, sym, _∙_, subst}
-use mathlib.Core.Logic.{inl}
+use mathlib.Core.Path.{_≡_, refl, sym, _∙_, subst}
+use mathlib.Core.Logic.{_≢_, inl}
 use mathlib.Core.List.{List}
 use Prim.Native.Nat.{ℕ, _-_, _≤_, _<_}
 use native.Mathlib.Omega.{arith}
 use lib.ListN.{length, getD}
 use lib.Seq.{ext-getD}
+use borrow.Author.Tests.{eq-eqb, ne-eqb}
+use Rattle.memory.proofs.Cases.{split-eq}
 use Rattle.memory.proofs.Bytes.{length-part, getD-part}
 use Rattle.media.specs.Geometry.{files, fileBytes, mediaBytes, fileStart}
 use Rattle.media.specs.Write.{byteAt, sizeAt}
@@ -15,9 +17,15 @@ use Rattle.cache.specs.Current.{currentAt}
 use Rattle.cache.proofs.Sound.{Fit}
 use Rattle.cache.proofs.Admission.{Mountable}
 use Rattle.model.specs.ModelFile.{ModelFile}
-use Rattle.model.specs.Run.{Files}
+use Rattle.model.specs.Run.{Files, change}
 use Rattle.model.specs.States.{replay, State}
 use Rattle.model.specs.Store.{storeMedia}
+
+-- file f is changed, the others stay
+pub changed : (Q : ℕ → ModelFile → Type 0) (f : ℕ) (h : ModelFile → ModelFile) (fs : Files) → Q f (h (fs f))
+    → ((g : ℕ) → g ≢ f → g < files → Q g (fs g)) → (g : ℕ) → g < files → Q g (change f h fs g)
+changed Q f h fs own other g hg =
+    split-eq g f (λ e. rw (e, eq-eqb f f refl) own) (λ ne. rw (ne-eqb g f ne) (other g ne hg))
 
 module _ (P : ℕ) where
   -- ---- of one file

@@ -132,7 +132,7 @@ module _ (P : ℕ) (d : Device) (budget : ℕ) where
       let r : Result Device = Mounting.mount P budget d in
       Invariant P (r .left) (feed (mount budget) (r .answer) (storeMedia P (r .left)) fs)
   keeps-mount fs inv =
-      mount-by P (λ r. Invariant P (r .left) (feed (mount budget) (r .answer) (storeMedia P (r .left)) fs)) budget d
+      mount-by P budget d (λ r. Invariant P (r .left) (feed (mount budget) (r .answer) (storeMedia P (r .left)) fs))
       (λ k lo hi. rw (ne-eqb k 0 (λ e. (omega arith))) inv)
       (λ m l. cut-keeps P d m l fs inv)
       (λ m n l z. done-keeps P d m l z)
@@ -140,7 +140,7 @@ module _ (P : ℕ) (d : Device) (budget : ℕ) where
   -- the mount before the list
   pub starts : IsDone (Mounting.mount P budget d .answer) → Invariant P (Mounting.mount P budget d .left) (λ f. fresh (storeMedia P (Mounting.mount P budget d .left) f))
   starts =
-      mount-by P (λ r. IsDone (r .answer) → Invariant P (r .left) (λ f. fresh (storeMedia P (r .left) f))) budget d
+      mount-by P budget d (λ r. IsDone (r .answer) → Invariant P (r .left) (λ f. fresh (storeMedia P (r .left) f)))
       (λ k lo hi z. absurd (omega arith))
       (λ m l z. absurd (omega arith))
       (λ m n l z q. done-keeps P d m l z)
@@ -148,7 +148,7 @@ module _ (P : ℕ) (d : Device) (budget : ℕ) where
   -- what a mount in the list finds
   pub finds : (fs : Files) → Invariant P d fs → IsDone (Mounting.mount P budget d .answer) → (f : ℕ) → f < files → State (fs f) (storeMedia P (Mounting.mount P budget d .left) f)
   finds fs inv is f hf =
-      mount-by P (λ r. IsDone (r .answer) → State (fs f) (storeMedia P (r .left) f)) budget d
+      mount-by P budget d (λ r. IsDone (r .answer) → State (fs f) (storeMedia P (r .left) f))
       (λ k lo hi z. absurd (omega arith))
       (λ m l z. absurd (omega arith))
       (λ m n l z q.

@@ -251,7 +251,7 @@ module _ (P : ℕ) (d : Device) (fs : Files) (inv : Invariant P d fs) where
 
   pub mount-mounted : (budget : ℕ) → let r : Result Device = mount P budget d in up (r .left) ≡ cond (eqb (r .answer .number) 9) false (ifDone (r .answer) true (up d))
   mount-mounted budget =
-      mount-by P (λ r. up (r .left) ≡ cond (eqb (r .answer .number) 9) false (ifDone (r .answer) true (up d))) budget d
+      mount-by P budget d (λ r. up (r .left) ≡ cond (eqb (r .answer .number) 9) false (ifDone (r .answer) true (up d)))
       (λ k lo hi.
       let e : eqb k 9 ≡ false = ne-eqb k 9 (λ e. (omega arith)) in
       let z : eqb k 0 ≡ false = ne-eqb k 0 (λ e. (omega arith)) in

@@ -38,7 +38,7 @@ module _ (P : ℕ) where
       (λ ad l. inr (inr (refl, refl)))
       (λ ad l. inl refl)
   demand-1 (mount budget) d =
-      mount-by P (λ r. Cases ((r .answer ≡ CUT budget) × (eqb (r .left .cache .mounted) 1 ≡ false)) [] d (r .answer) [] (r .left)) budget d
+      mount-by P budget d (λ r. Cases ((r .answer ≡ CUT budget) × (eqb (r .left .cache .mounted) 1 ≡ false)) [] d (r .answer) [] (r .left))
       (λ k lo hi. inr (inl (k, lo, hi, refl, refl, refl)))
       (λ m l. inr (inr (refl, refl)))
       (λ m n l c. inl refl)

@@ -5,7 +5,7 @@ use mathlib.Core.List.{List}
 use Prim.Native.Nat.{ℕ, _*_, _≤_, _<_}
 use native.Mathlib.Omega.{arith}
 use lib.ListN.{length, take, List·getD-eq-default}
-use borrow.Author.Tests.{eq-eqb, ne-eqb}
+use borrow.Author.Tests.{ne-eqb}
 use Rattle.memory.proofs.Cases.{split-lt, split-eq}
 use Rattle.media.specs.Geometry.{files, pageBytes, fileBytes}
 use Rattle.media.specs.Write.{Media, sizeAt, applyAll, All}
@@ -22,7 +22,7 @@ use Rattle.model.specs.ModelFile.{afterSync}
 use Rattle.model.specs.Run.{Files, change, feed}
 use Rattle.model.specs.Run.Call.{sync}
 use Rattle.model.specs.States.{replay}
-use Rattle.model.proofs.Invariant.{Found, Mounted, Invariant, SameStored, SameFile, same-found, same-mounted}
+use Rattle.model.proofs.Invariant.{changed, Found, Mounted, Invariant, SameStored, SameFile, same-found, same-mounted}
 
 pub zero-not-one : _≡_ {A = ℕ} 0 1 → ⊥
 zero-not-one e = omega arith
@@ -154,15 +154,9 @@ module _ (P : ℕ) (d : Device) (fs : Files) (f : ℕ) (inv : Invariant P d fs) 
       let y : Fit P e = synced-fit P d f r in
       record {
         mountable = record { bytes = y .bytes; sizes = y .sizes .stored-count; fit = y .sizes .stored-fits };
-        found = λ g hg.
-            split-eq g f
-            (λ q. rw (q, eq-eqb f f refl) done-found)
-            (λ ne. rw (ne-eqb g f ne) (same-found P (done-other g ne hg .stored) (inv .found g hg)));
+        found = changed (Found P e) f afterSync fs done-found (λ g ne hg. same-found P (done-other g ne hg .stored) (inv .found g hg));
         fit = λ _. y;
-        mounted = λ _ g hg.
-            split-eq g f
-            (λ q. rw (q, eq-eqb f f refl) done-own)
-            (λ ne. rw (ne-eqb g f ne) (same-mounted P (done-other g ne hg) (inv .mounted up g hg)));
+        mounted = λ _. changed (Mounted P e) f afterSync fs done-own (λ g ne hg. same-mounted P (done-other g ne hg) (inv .mounted up g hg));
       }
 
 pub keeps-sync : (P : ℕ) (d : Device) (fs : Files) (f budget : ℕ) → Invariant P d fs → (found : Device → ℕ → List ℕ) →

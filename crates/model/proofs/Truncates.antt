@@ -5,8 +5,8 @@ use mathlib.Core.List.{List}
 use Prim.Native.Nat.{ℕ, _≤_, _<_, min}
 use native.Mathlib.Omega.{arith}
 use lib.ListN.{length}
-use borrow.Author.Tests.{leb-true, eq-eqb, ne-eqb, lt-ltb, le-ltb}
-use Rattle.memory.proofs.Cases.{split-lt, split-eq}
+use borrow.Author.Tests.{leb-true, ne-eqb, lt-ltb, le-ltb}
+use Rattle.memory.proofs.Cases.{split-lt}
 use Rattle.media.specs.Geometry.{files, fileBytes}
 use Rattle.cache.specs.Device.{Device, framesBytes, floorAt}
 use Rattle.cache.specs.Current.{currentAt}
@@ -21,7 +21,7 @@ use Rattle.model.specs.Run.{Files, change, feed}
 use Rattle.model.specs.Run.Call.{truncate}
 use Rattle.model.specs.States.{redo, replay}
 use Rattle.model.proofs.ModelFile.{length-truncate, truncate-below, truncate-past, replay-one-more}
-use Rattle.model.proofs.Invariant.{Mixed, Mounted, Invariant, SameStored, SameFile, same-found, same-mounted, mounted-found}
+use Rattle.model.proofs.Invariant.{changed, Found, Mixed, Mounted, Invariant, SameStored, SameFile, same-found, same-mounted, mounted-found}
 
 module _ (P : ℕ) (d : Device) (x : Fit P d) (frames : length (d .frames) ≡ framesBytes) (f n : ℕ) (hf : f < files) (hn : n ≤ fileBytes P) where
   abbrev c : Device
@@ -79,15 +79,11 @@ module _ (P : ℕ) (d : Device) (x : Fit P d) (frames : length (d .frames) ≡ f
       record {
         mountable = rw (truncated-media P d x frames f n hf)
             (record { bytes = inv .mountable .bytes; sizes = inv .mountable .sizes; fit = inv .mountable .fit });
-        found = λ g hg.
-            split-eq g f
-            (λ e. rw (e, eq-eqb f f refl) (mounted-found P c f (afterTruncate n (fs f)) _ own refl))
-            (λ ne. rw (ne-eqb g f ne) (same-found P (same-stored g) (inv .found g hg)));
+        found =
+            changed (Found P c) f (afterTruncate n) fs (mounted-found P c f (afterTruncate n (fs f)) _ own refl)
+            (λ g ne hg. same-found P (same-stored g) (inv .found g hg));
         fit = λ _. truncated-fit P d x frames f n hf hn;
-        mounted = λ _ g hg.
-            split-eq g f
-            (λ e. rw (e, eq-eqb f f refl) own)
-            (λ ne. rw (ne-eqb g f ne) (same-mounted P (other-file g ne) (inv .mounted up g hg)));
+        mounted = λ _. changed (Mounted P c) f (afterTruncate n) fs own (λ g ne hg. same-mounted P (other-file g ne) (inv .mounted up g hg));
       }
 
 pub keeps-truncate : (P : ℕ) (d : Device) (fs : Files) (f n : ℕ) → Invariant P d fs → (found : Device → ℕ → List ℕ) →

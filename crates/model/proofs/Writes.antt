@@ -20,7 +20,7 @@ use Rattle.model.specs.Run.{Files, change, feed}
 use Rattle.model.specs.Run.Call.{write}
 use Rattle.model.specs.States.{redo, replay}
 use Rattle.model.proofs.ModelFile.{length-lay, lay-in, lay-before, lay-after, write-none, write-some, logged-none, logged-some, replay-one-more}
-use Rattle.model.proofs.Invariant.{Mixed, Mounted, Invariant, SameStored, SameFile, same-found, same-mounted, mounted-found}
+use Rattle.model.proofs.Invariant.{changed, Found, Mixed, Mounted, Invariant, SameStored, SameFile, same-found, same-mounted, mounted-found}
 
 module _ (P : ℕ) (d c : Device) (f position n : ℕ) (bytes : List ℕ) (hf : f < files) (hn : n ≤ length bytes) (w : Leaves P f position n bytes d c) where
   same-stored : (g : ℕ) → SameStored P d c g
@@ -128,15 +128,11 @@ module _ (P : ℕ) (d c : Device) (f position n : ℕ) (bytes : List ℕ) (hf : 
       (λ ne. own-file (fs f) (omega arith) (inv .mounted up f hf)) in
       record {
         mountable = mountable;
-        found = λ g hg.
-            split-eq g f
-            (λ e. rw (e, eq-eqb f f refl) (mounted-found P c f (afterWrite position put (fs f)) _ own refl))
-            (λ ne. rw (ne-eqb g f ne) (same-found P (same-stored g) (inv .found g hg)));
+        found =
+            changed (Found P c) f (afterWrite position put) fs (mounted-found P c f (afterWrite position put (fs f)) _ own refl)
+            (λ g ne hg. same-found P (same-stored g) (inv .found g hg));
         fit = λ _. w .fit;
-        mounted = λ _ g hg.
-            split-eq g f
-            (λ e. rw (e, eq-eqb f f refl) own)
-            (λ ne. rw (ne-eqb g f ne) (same-mounted P (other-file g ne) (inv .mounted up g hg)));
+        mounted = λ _. changed (Mounted P c) f (afterWrite position put) fs own (λ g ne hg. same-mounted P (other-file g ne) (inv .mounted up g hg));
       }
 
 pub keeps-write : (P : ℕ) (d : Device) (fs : Files) (f position : ℕ) (bytes : List ℕ) → Invariant P d fs → (found : Device → ℕ → List ℕ) →
