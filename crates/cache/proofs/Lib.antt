@@ -1,6 +1,7 @@
 pub mod Scan
 pub mod Device
 pub mod Current
+pub mod Sizes
 pub mod Sound
 pub mod Admission
 pub mod Reading

@@ -8,17 +8,19 @@ use native.Mathlib.Omega.{arith}
 use lib.Dec.{leb}
 use lib.ListN.{length, getD, set, length-set, length-map, replicate, List·getD-map}
 use lib.Seq.{getD-set-same, getD-set-other, set-getD}
-use borrow.Author.Tests.{eqb-true, leb-true, eq-eqb, lt-ltb, le-leb}
+use borrow.Author.Tests.{eqb-true, leb-true, eq-eqb, lt-ltb}
 use borrow.Table.Steps.{cases}
 use Rattle.memory.proofs.Cases.{split-eq}
+use Rattle.memory.proofs.Bytes.{getD-zeros}
+use Rattle.media.specs.Write.{Media}
 use Rattle.media.specs.Geometry.{files, fileBytes, mediaBytes}
 use Rattle.cache.specs.declared.Slot.{Slot}
-use Rattle.cache.specs.declared.FileSizes.{FileSizes}
 use Rattle.cache.specs.Scan.{every, everyBelow, firstIndex}
-use Rattle.cache.specs.Device.{Device, slotCount, freeSlot, noSlots, isFree, holds, freeWhere}
-use Rattle.cache.specs.Sizes.{orderTests, inOrder}
-use Rattle.cache.specs.Sound.{inRange, holdsAlone, sizesOf, soundTests, isSound}
+use Rattle.cache.specs.Device.{Device, deviceOf, downState, slotCount, freeSlot, noSlots, isFree, holds, freeWhere}
+use Rattle.cache.specs.Sizes.{inOrder}
+use Rattle.cache.specs.Sound.{inRange, holdsAlone, isDown, sizesOf, soundTests, isSound}
 use Rattle.cache.proofs.Scan.{is-false, true-not-false, allOf-at, everyBelow-at, everyBelow-all, every-at, every-all, first-set, first-set-here}
+use Rattle.cache.proofs.Sizes.{order-true, order-is}
 use Rattle.cache.proofs.Device.{holds-own, holds-one, free-holds, slot-stays}
 
 module _ (P : ℕ) where
@@ -46,14 +48,6 @@ module _ (P : ℕ) where
     pub sizes : SizesFit (d .cache .logical) (d .cache .floor) (d .media .sizes)
 
   -- ---- what the tests say
-
-  pub order-true : (g : ℕ) (s : FileSizes) → s .floor ≤ s .logical → s .logical ≤ g → s .floor ≤ s .stored → inOrder g s ≡ true
-  unfolding inOrder
-  order-true g s a b c = rw (le-leb _ _ a, le-leb _ _ b, le-leb _ _ c)
-
-  pub order-is : (g : ℕ) (s : FileSizes) → inOrder g s ≡ true → (s .floor ≤ s .logical) × (s .logical ≤ g) × (s .floor ≤ s .stored)
-  unfolding inOrder
-  order-is g s e = (leb-true _ _ (allOf-at (orderTests g s) e 0), leb-true _ _ (allOf-at (orderTests g s) e 1), leb-true _ _ (allOf-at (orderTests g s) e 2))
 
   -- a mounted device with these facts is sound
   pub fit-sound : (d : Device) → Fit d → d .cache .mounted ≡ 1 → isSound P d ≡ true
@@ -97,6 +91,16 @@ module _ (P : ℕ) where
           stored-fits = λ f h. leb-true _ _ (every-at (λ n. leb n (fileBytes P)) (d .media .sizes) 0 fit f (rw ls h));
         };
       }
+
+  -- the down state is sound beside any media
+  pub down-sound : (m : Media) (frames : List ℕ) → isSound P (deviceOf m frames downState) ≡ true
+  unfolding isSound soundTests holdsAlone isDown inRange
+  down-sound m frames =
+      let order : everyBelow files (λ f. inOrder (fileBytes P) (sizesOf (deviceOf m frames downState) f)) ≡ true =
+      everyBelow-all files (λ f. inOrder (fileBytes P) (sizesOf (deviceOf m frames downState) f)) (λ f h.
+      order-true (fileBytes P) (sizesOf (deviceOf m frames downState) f)
+      (omega (arith, getD-zeros files f)) (omega (arith, getD-zeros files f)) (omega (arith, getD-zeros files f))) in
+      rw order
 
   -- ---- what keeps the slots
 
