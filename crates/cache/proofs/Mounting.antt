@@ -1,7 +1,7 @@
 -- What a mount or a format leaves on the media: cut after some TRIMs, or done.
 use mathlib.Core.Path.{_≡_, refl, sym, ap, _∙_}
 use mathlib.Core.Logic.{_≢_, _⊎_, inl, inr}
-use mathlib.Core.Bool.{Bool, true, _&&_}
+use mathlib.Core.Bool.{Bool, false, not, _||_}
 use mathlib.Core.List.{_++_}
 use Prim.Native.Nat.{ℕ, zero, suc, _+_, _-_, _≤_, _<_}
 use native.Mathlib.Nat.{le-of-suc-le-suc}
@@ -9,7 +9,7 @@ use native.Mathlib.Omega.{arith}
 use lib.Dec.{eqb}
 use lib.ListN.{length, getD, take}
 use lib.Seq.{take-nil, take-length, ext-getD}
-use borrow.Author.Tests.{eqb-true, eq-eqb, ne-eqb, le-leb, lt-leb}
+use borrow.Author.Tests.{not-false, eqb-true, eq-eqb, ne-eqb, le-leb, lt-leb}
 use borrow.Table.Steps.{cases}
 use Rattle.answer.specs.Coded.{refused, done, CUT}
 use Rattle.memory.specs.Bytes.{part}
@@ -22,26 +22,27 @@ use Rattle.media.proofs.Geometry.{file-end}
 use Rattle.media.proofs.Write.{bytes-stay, sizes-stay, byte-after-trim, size-after-trim, all-bytes-stay, all-sizes-stay}
 use Rattle.cache.specs.Device.{Device, deviceOf, downState, mountedState}
 use Rattle.cache.specs.Admission.{Result, give, mediaShape, sizesFit}
-use Rattle.cache.specs.Mounting.{trimsFrom, zeroFrom, mountPlan, mount, formatPlan, format}
-use Rattle.cache.proofs.Scan.{and-left, and-right, every-at}
+use Rattle.cache.specs.Plan.{writeIf}
+use Rattle.cache.specs.Mounting.{trimsFrom, nonzeroFrom, mountPlan, mount, formatPlan, format}
+use Rattle.cache.proofs.Scan.{or-left, or-right, every-at}
 use Rattle.cache.proofs.Admission.{admit-by, Mountable, shape-eight, mount-eight, mount-admitted}
-use Rattle.cache.proofs.Syncing.{budget-by}
+use Rattle.cache.proofs.Plan.{budget-by, all-join, all-if}
 
 module _ (P : ℕ) where
-  pub zero-from : (m : Media) (f n : ℕ) → length (m .bytes) ≡ mediaBytes P → f < files → zeroFrom P m f n ≡ true
+  pub zero-from : (m : Media) (f n : ℕ) → length (m .bytes) ≡ mediaBytes P → f < files → nonzeroFrom P m f n ≡ false
       → (i : ℕ) → n ≤ i → i < fileBytes P → byteAt P m f i ≡ 0
-  unfolding zeroFrom
+  unfolding nonzeroFrom
   zero-from m f n lm hf e i lo hi =
       let l : length (part (m .bytes) (fileStart P f + n) (fileBytes P - n)) ≡ fileBytes P - n =
       length-part (m .bytes) (fileStart P f + n) (fileBytes P - n) (omega (arith, file-end P f hf)) in
       ap (λ (k : ℕ). getD (m .bytes) k 0) (omega arith)
       ∙ sym (getD-part (m .bytes) (fileStart P f + n) (fileBytes P - n) (i - n) (omega arith))
-      ∙ eqb-true _ _ (every-at (λ b. eqb b 0) (part (m .bytes) (fileStart P f + n) (fileBytes P - n)) 0 e (i - n) (omega arith))
+      ∙ eqb-true _ _ (every-at (λ b. eqb b 0) (part (m .bytes) (fileStart P f + n) (fileBytes P - n)) 0 (not-false _ e) (i - n) (omega arith))
 
   -- ---- the TRIMs of all files
 
-  module _ (m : Media) (inOrder : ℕ → Bool) (size : ℕ → ℕ) (fits : (g : ℕ) → g < files → size g ≤ fileBytes P)
-      (ordered : (g : ℕ) → g < files → inOrder g ≡ true
+  module _ (m : Media) (needed : ℕ → Bool) (size : ℕ → ℕ) (fits : (g : ℕ) → g < files → size g ≤ fileBytes P)
+      (ordered : (g : ℕ) → g < files → needed g ≡ false
       → (sizeAt m g ≡ size g) × ((i : ℕ) → size g ≤ i → i < fileBytes P → byteAt P m g i ≡ 0)) where
     -- from a to c, n files from f on were looked at; all: to the end
     record Swept (f n : ℕ) (all : Type 0) (a c : Media) : Type 0 where
@@ -71,7 +72,7 @@ module _ (P : ℕ) where
     }
 
     -- a file in order
-    keep-file : (f n : ℕ) (all : Type 0) (a c : Media) → inOrder f ≡ true → Untouched f a → Swept (suc f) n all a c → Swept f (suc n) all a c
+    keep-file : (f n : ℕ) (all : Type 0) (a c : Media) → needed f ≡ false → Untouched f a → Swept (suc f) n all a c → Swept f (suc n) all a c
     keep-file f n all a c e u s = record {
       kept = s .kept;
       either = s .either;
@@ -156,25 +157,26 @@ module _ (P : ℕ) where
     }
 
     sweep : (n f k : ℕ) (a : Media) → f + n ≤ files → Untouched f a
-        → Swept f n (length (trimsFrom inOrder size n f) ≤ k) a (applyAll P a (take k (trimsFrom inOrder size n f)))
-    unfolding trimsFrom
+        → Swept f n (length (trimsFrom needed size n f) ≤ k) a (applyAll P a (take k (trimsFrom needed size n f)))
+    unfolding trimsFrom writeIf
     sweep zero f k a h u = rw (take-nil k) (none-swept f 0 _ a (λ _. refl))
     sweep (suc n) f zero a h u =
-        cases (inOrder f)
-        (λ e. rw e (keep-file f n _ a _ e u (sweep n (suc f) zero a (omega arith) (later f a u))))
+        cases (needed f)
         (λ e. rw e (none-swept f (suc n) _ a (λ z. absurd (omega arith))))
+        (λ e. rw e (keep-file f n _ a _ e u (sweep n (suc f) zero a (omega arith) (later f a u))))
     sweep (suc n) f (suc k) a h u =
-        cases (inOrder f)
+        cases (needed f)
+        (λ e. rw e
+        (more
+        (trim-file f (omega arith) a u n _ _ (sweep n (suc f) k (apply P a (trim f (size f))) (omega arith) (trimmed f (omega arith) a u)))))
         (λ e. rw e (keep-file f n _ a _ e u (sweep n (suc f) (suc k) a (omega arith) (later f a u))))
-        (λ e. rw e (more (trim-file f (omega arith) a u n _ _ (sweep n (suc f) k (apply P a (trim f (size f))) (omega arith) (trimmed f (omega arith) a u)))))
 
-    trims-own : (n f : ℕ) → f + n ≤ files → All (InLimits P) (trimsFrom inOrder size n f)
+    trims-own : (n f : ℕ) → f + n ≤ files → All (InLimits P) (trimsFrom needed size n f)
     unfolding trimsFrom
     trims-own zero f h = tt
     trims-own (suc n) f h =
-        cases (inOrder f)
-        (λ e. rw e (trims-own n (suc f) (omega arith)))
-        (λ e. rw e ((omega arith, fits f (omega arith)), trims-own n (suc f) (omega arith)))
+        all-join (InLimits P) (writeIf (needed f) (trim f (size f))) _ (all-if (InLimits P) (needed f) _ (λ e. (omega arith, fits f (omega arith))))
+        (trims-own n (suc f) (omega arith))
 
     -- ---- the whole list, under any budget
 
@@ -192,21 +194,21 @@ module _ (P : ℕ) where
       at-first : Untouched 0 m
       at-first = record { bytes = lb; sizes = ls; byte = λ g i l hg hi. refl; size-of = λ g l hg. refl }
 
-      pub trims-cut : (k : ℕ) → Trimmed (applyAll P m (take k (trimsFrom inOrder size files 0)))
+      pub trims-cut : (k : ℕ) → Trimmed (applyAll P m (take k (trimsFrom needed size files 0)))
       trims-cut k =
           let s = sweep files 0 k m (omega arith) at-first in
           record {
-            bytes = all-bytes-stay P m (take k (trimsFrom inOrder size files 0)) ∙ lb;
-            sizes = all-sizes-stay P m (take k (trimsFrom inOrder size files 0)) ∙ ls;
+            bytes = all-bytes-stay P m (take k (trimsFrom needed size files 0)) ∙ lb;
+            sizes = all-sizes-stay P m (take k (trimsFrom needed size files 0)) ∙ ls;
             kept = s .kept;
             either = s .either;
           }
 
-      pub trims-done : Trimmed (applyAll P m (trimsFrom inOrder size files 0)) × AllTrimmed (applyAll P m (trimsFrom inOrder size files 0))
+      pub trims-done : Trimmed (applyAll P m (trimsFrom needed size files 0)) × AllTrimmed (applyAll P m (trimsFrom needed size files 0))
       trims-done =
-          let n : ℕ = length (trimsFrom inOrder size files 0) in
-          let s = rw (take-length (trimsFrom inOrder size files 0)) at (sweep files 0 n m (omega arith) at-first) in (
-            rw (take-length (trimsFrom inOrder size files 0)) at (trims-cut n),
+          let n : ℕ = length (trimsFrom needed size files 0) in
+          let s = rw (take-length (trimsFrom needed size files 0)) at (sweep files 0 n m (omega arith) at-first) in (
+            rw (take-length (trimsFrom needed size files 0)) at (trims-cut n),
             record {
               clean = λ g i hg ge hi. s .clean (omega arith) g i (omega arith) (omega arith) hg ge hi;
               sized = λ g hg. s .sized (omega arith) g (omega arith) (omega arith) hg;
@@ -227,11 +229,11 @@ module _ (P : ℕ) where
     pub zero-past : (g i : ℕ) → g < files → sizeAt (d .media) g ≤ i → i < fileBytes P → byteAt P c g i ≡ 0
 
   module _ (d : Device) (x : Mountable P d) where
-    mount-ordered : (g : ℕ) → g < files → zeroFrom P (d .media) g (sizeAt (d .media) g) ≡ true
+    mount-ordered : (g : ℕ) → g < files → nonzeroFrom P (d .media) g (sizeAt (d .media) g) ≡ false
         → (sizeAt (d .media) g ≡ sizeAt (d .media) g) × ((i : ℕ) → sizeAt (d .media) g ≤ i → i < fileBytes P → byteAt P (d .media) g i ≡ 0)
     mount-ordered g hg e = (refl, λ i lo hi. zero-from (d .media) g (sizeAt (d .media) g) (x .bytes) hg e i lo hi)
 
-    left : (c : Media) → Trimmed (d .media) (λ f. zeroFrom P (d .media) f (sizeAt (d .media) f)) (sizeAt (d .media)) (x .fit) mount-ordered c → Left d c
+    left : (c : Media) → Trimmed (d .media) (λ f. nonzeroFrom P (d .media) f (sizeAt (d .media) f)) (sizeAt (d .media)) (x .fit) mount-ordered c → Left d c
     left c t = record {
       mountable = x;
       bytes = t .bytes;
@@ -272,10 +274,12 @@ module _ (P : ℕ) where
   -- ---- format
 
   module _ (m : Media) (lb : length (m .bytes) ≡ mediaBytes P) (ls : length (m .sizes) ≡ files) where
-    format-ordered : (g : ℕ) → g < files → eqb (sizeAt m g) 0 && zeroFrom P m g 0 ≡ true
+    format-ordered : (g : ℕ) → g < files → nonzeroFrom P m g 0 || not (eqb (sizeAt m g) 0) ≡ false
         → (sizeAt m g ≡ 0) × ((i : ℕ) → 0 ≤ i → i < fileBytes P → byteAt P m g i ≡ 0)
-    format-ordered g hg e =
-        (eqb-true _ _ (and-left (eqb (sizeAt m g) 0) _ e), λ i lo hi. zero-from m g 0 lb hg (and-right (eqb (sizeAt m g) 0) _ e) i lo hi)
+    format-ordered g hg e = (
+      eqb-true _ _ (not-false _ (or-right (nonzeroFrom P m g 0) _ e)),
+      λ i lo hi. zero-from m g 0 lb hg (or-left (nonzeroFrom P m g 0) _ e) i lo hi,
+    )
 
     -- a format that is done leaves eight empty files on zeros
     pub format-done : (g : ℕ) → g < files

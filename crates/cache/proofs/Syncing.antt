@@ -1,65 +1,34 @@
 -- What a sync leaves on the media: cut after some writes, or done.
 use mathlib.Core.Path.{_≡_, refl, sym, ap, _∙_}
 use mathlib.Core.Logic.{_≢_, _⊎_, inl, inr}
-use mathlib.Core.Bool.{true, false, cond}
-use mathlib.Core.List.{List, [], _∷_, _++_}
+use mathlib.Core.Bool.{true, false, cond, not}
+use mathlib.Core.List.{List, _++_}
 use Prim.Native.Nat.{ℕ, zero, suc, _+_, _-_, _*_, _/_, _%_, _≤_, _<_}
 use native.Mathlib.Nat.{le-of-suc-le-suc}
 use native.Mathlib.Omega.{arith}
-use lib.Dec.{eqb, ltb, leb}
+use lib.Dec.{eqb, ltb}
 use lib.ListN.{length, getD, take, length-append, length-set}
 use lib.Seq.{getD-set-same, getD-set-other, take-nil, take-append-le, take-length}
-use borrow.Author.Tests.{eq-eqb, ne-eqb, lt-ltb, le-ltb, ltb-false, le-leb, lt-leb}
+use borrow.Author.Tests.{eq-eqb, ne-eqb, lt-ltb, le-ltb, ltb-true, ltb-false, le-leb, lt-leb}
 use borrow.Table.Steps.{cases}
 use Rattle.answer.specs.Coded.{refused, done, CUT}
-use Rattle.answer.specs.Admission.{test, firstRefusal}
 use Rattle.memory.specs.Bytes.{part}
 use Rattle.memory.proofs.Cases.{split-lt, split-eq}
 use Rattle.memory.proofs.Bytes.{length-part, getD-part}
 use Rattle.media.specs.Geometry.{files, pagesPerFile, pageBytes, fileBytes, mediaBytes}
-use Rattle.media.specs.Write.{Media, MediaWrite, byteAt, sizeAt, apply, applyAll, InLimits, fileOf, All}
+use Rattle.media.specs.Write.{Media, MediaWrite, byteAt, sizeAt, apply, applyAll, All}
 use Rattle.media.specs.Write.MediaWrite.{page, trim}
-use Rattle.media.proofs.Write.{bytes-stay, sizes-stay, byte-after-page, byte-after-trim, all-append, all-bytes-stay, all-sizes-stay, others-byte, others-size}
-use Rattle.cache.specs.declared.CacheState.{CacheState}
+use Rattle.media.proofs.Write.{bytes-stay, sizes-stay, byte-after-page, byte-after-trim, all-append, all-bytes-stay, all-sizes-stay}
 use Rattle.cache.specs.Device.{Device, deviceOf, slotCount, framesBytes, frameStart, slotOf, isCached, logicalAt, floorAt, downState}
 use Rattle.cache.specs.Current.{currentAt}
 use Rattle.cache.specs.Admission.{Result, give}
-use Rattle.cache.specs.Syncing.{trimWrites, pageWrites, sizeWrites, syncPlan, pagesOf, syncedState, underBudget, sync}
+use Rattle.cache.specs.Plan.{writeIf}
+use Rattle.cache.specs.Syncing.{trimWrites, pageWrites, sizeWrites, syncPlan, pagesOf, syncedState, sync}
 use Rattle.cache.proofs.Current.{current-cached, current-media, current-zero, current-same}
 use Rattle.cache.proofs.Device.{slot-gone, slot-stays}
 use Rattle.cache.proofs.Admission.{Admitted, file-by}
+use Rattle.cache.proofs.Plan.{all-join, all-if, at-most-one, budget-by, Own, own-other-byte, own-other-size}
 use Rattle.cache.proofs.Sound.{Fit, freed-fit}
-
--- ---- lists of writes
-
-module _ (Q : MediaWrite → Type 0) where
-  pub all-take : (k : ℕ) (ws : List MediaWrite) → All Q ws → All Q (take k ws)
-  all-take zero ws h = tt
-  all-take (suc k) [] h = tt
-  all-take (suc k) (w ∷ ws) h = (h .0, all-take k ws (h .1))
-
-  pub all-join : (ws vs : List MediaWrite) → All Q ws → All Q vs → All Q (ws ++ vs)
-  all-join [] vs h k = k
-  all-join (w ∷ ws) vs h k = (h .0, all-join ws vs (h .1) k)
-
-  pub all-map : (R : MediaWrite → Type 0) → ((w : MediaWrite) → R w → Q w) → (ws : List MediaWrite) → All R ws → All Q ws
-  all-map R g [] h = tt
-  all-map R g (w ∷ ws) h = (g w (h .0), all-map R g ws (h .1))
-
--- ---- a plan under a budget: cut, or done
-
-module _ (P budget : ℕ) (plan : List MediaWrite) (s : CacheState) (d : Device) where
-  pub budget-by : (Q : Result Device → Type 0)
-      → (budget < length plan → Q (give (CUT budget) (deviceOf (applyAll P (d .media) (take budget plan)) (d .frames) downState)))
-      → (length plan ≤ budget → Q (give (done (length plan)) (deviceOf (applyAll P (d .media) plan) (d .frames) s)))
-      → Q (underBudget P budget plan s d)
-  unfolding underBudget
-  budget-by Q x y = split-lt budget (length plan) (λ l. rw (lt-ltb _ _ l) (x l)) (λ l. rw (le-ltb _ _ l) (y l))
-
-  pub budget-answer : underBudget P budget plan s d .answer ≡ firstRefusal (test (leb (length plan) budget) (CUT budget) ∷ []) (done (length plan))
-  budget-answer =
-      budget-by (λ r. r .answer ≡ firstRefusal (test (leb (length plan) budget) (CUT budget) ∷ []) (done (length plan)))
-      (λ l. rw (lt-leb _ _ l)) (λ l. rw (le-leb _ _ l))
 
 -- a sync is refused with everything as it came, cut, or done
 pub sync-by : (P f budget : ℕ) (d : Device) (Q : Result Device → Type 0)
@@ -81,72 +50,27 @@ sync-frames P f budget d = sync-by P f budget d (λ r. r .left .frames ≡ d .fr
 
 -- at most a TRIM, every page, and a SIZE
 module _ (d : Device) (f : ℕ) where
-  trim-at-most : length (trimWrites d f) ≤ 1
-  unfolding trimWrites
-  trim-at-most = cases (ltb (floorAt d f) (sizeAt (d .media) f)) (λ e. rw e (omega arith)) (λ e. rw e (omega arith))
-
   pages-at-most : (n p : ℕ) → length (pageWrites d f n p) ≤ n
   unfolding pageWrites
   pages-at-most zero p = omega arith
   pages-at-most (suc n) p =
-      cases (isCached d f p) (λ e. rw e (omega (arith, pages-at-most n (suc p)))) (λ e. rw e (omega (arith, pages-at-most n (suc p))))
+      simp length-append
+      (omega (arith, at-most-one (isCached d f p) (page f p (part (d .frames) (frameStart (slotOf d f p)) pageBytes)), pages-at-most n (suc p)))
+
+  trim-at-most : length (trimWrites d f) ≤ 1
+  unfolding trimWrites
+  trim-at-most = at-most-one _ _
 
   size-at-most : length (sizeWrites d f) ≤ 1
   unfolding sizeWrites
-  size-at-most = cases (eqb (logicalAt d f) (floorAt d f)) (λ e. rw e (omega arith)) (λ e. rw e (omega arith))
+  size-at-most = at-most-one _ _
 
   pub sync-at-most : (P : ℕ) → length (syncPlan P d f) ≤ P + 2
   unfolding syncPlan
-  sync-at-most P =
-      omega (
-        arith,
-        length-append (trimWrites d f) (pageWrites d f P 0 ++ sizeWrites d f),
-        length-append (pageWrites d f P 0) (sizeWrites d f),
-        trim-at-most,
-        pages-at-most P 0,
-        size-at-most,
-      )
+  sync-at-most P = simp length-append (omega (arith, trim-at-most, pages-at-most P 0, size-at-most))
 
 pub sync-at-most-18 : (d : Device) (f : ℕ) → length (syncPlan pagesPerFile d f) ≤ 18
 sync-at-most-18 d f = sync-at-most d f pagesPerFile
-
--- each write is within the limits of the media, and to the file
-module _ (P : ℕ) where
-  abbrev pub Own : ℕ → MediaWrite → Type 0
-  Own f w = InLimits P w × (fileOf w ≡ f)
-
-  module _ (d : Device) (x : Fit P d) (frames : length (d .frames) ≡ framesBytes) (f : ℕ) (hf : f < files) where
-    frame-length : (p : ℕ) → slotOf d f p < slotCount → length (part (d .frames) (frameStart (slotOf d f p)) pageBytes) ≡ pageBytes
-    frame-length p l = length-part (d .frames) (frameStart (slotOf d f p)) pageBytes (omega arith)
-
-    pages-own : (n p : ℕ) → p + n ≤ P → All (Own f) (pageWrites d f n p)
-    unfolding pageWrites
-    pages-own zero p h = tt
-    pages-own (suc n) p h =
-        split-lt (slotOf d f p) slotCount
-        (λ l. rw (lt-ltb _ _ l) (((hf, omega arith, frame-length p l), refl), pages-own n (suc p) (omega arith)))
-        (λ l. rw (le-ltb _ _ l) (pages-own n (suc p) (omega arith)))
-
-    pub plan-own : All (Own f) (syncPlan P d f)
-    unfolding syncPlan trimWrites sizeWrites
-    plan-own =
-        all-join (Own f) (trimWrites d f) _
-        (cases (ltb (floorAt d f) (sizeAt (d .media) f))
-        (λ e. rw e (((hf, omega (arith, x .sizes .floor-logical f hf, x .sizes .logical-fits f hf)), refl), tt))
-        (λ e. rw e tt))
-        (all-join (Own f) (pageWrites d f P 0) _ (pages-own P 0 (omega arith))
-        (cases (eqb (logicalAt d f) (floorAt d f))
-        (λ e. rw e tt)
-        (λ e. rw e (((hf, x .sizes .logical-fits f hf), refl), tt))))
-
-  -- writes to file f leave the others
-  module _ (m : Media) (f : ℕ) (ws : List MediaWrite) (own : All (Own f) ws) (g : ℕ) (ne : g ≢ f) where
-    pub own-other-byte : (i : ℕ) → length (m .bytes) ≡ mediaBytes P → g < files → i < fileBytes P → byteAt P (applyAll P m ws) g i ≡ byteAt P m g i
-    own-other-byte i lm hg hi =
-        others-byte P m ws g i lm hg hi (all-map (λ w. InLimits P w × (g ≢ fileOf w)) (Own f) (λ w h. (h .0, λ e. ne (e ∙ h .1))) ws own)
-
-    pub own-other-size : sizeAt (applyAll P m ws) g ≡ sizeAt m g
-    own-other-size = others-size P m ws g (all-map (λ w. g ≢ fileOf w) (Own f) (λ w h e. ne (e ∙ h .1)) ws own)
 
 -- ---- the file itself
 
@@ -246,7 +170,7 @@ module _ (P : ℕ) (d : Device) (f : ℕ) where
       pub sizes : c .sizes ≡ m .sizes
 
     write-pages : (k n p : ℕ) (m : Media) → p + n ≤ P → Upto p m → PagesWritten k (nextPage d f k n p) (p + n) (pageWrites d f n p) m (applyAll P m (take k (pageWrites d f n p)))
-    unfolding nextPage pageWrites
+    unfolding nextPage pageWrites writeIf
     write-pages k zero p m h u = rw (take-nil k) (record { upto = u; all = λ _. (omega arith); sizes = refl })
     write-pages zero (suc n) p m h u =
         split-lt (slotOf d f p) slotCount
@@ -316,7 +240,7 @@ module _ (P : ℕ) (d : Device) (f : ℕ) where
 
     sized : (m : Media) → length (m .sizes) ≡ files → ((i : ℕ) → i < fileBytes P → byteAt P m f i ≡ currentAt P d f i) → sizeAt m f ≡ floorAt d f
         → Stored (applyAll P m (sizeWrites d f))
-    unfolding sizeWrites
+    unfolding sizeWrites writeIf
     sized m ls bytes sz =
         split-eq (logicalAt d f) (floorAt d f)
         (λ e. rw (eq-eqb _ _ e) (record { byte = bytes; stored = sz ∙ sym e }))
@@ -337,7 +261,7 @@ module _ (P : ℕ) (d : Device) (f : ℕ) where
     -- cut after k writes: nothing is done, or all below a page boundary
     pub sync-cut : (k : ℕ) → k < length (syncPlan P d f)
         → (applyAll P (d .media) (take k (syncPlan P d f)) ≡ d .media) ⊎ CutAt (boundary P d f k) (applyAll P (d .media) (take k (syncPlan P d f)))
-    unfolding syncPlan trimWrites
+    unfolding syncPlan trimWrites writeIf
     sync-cut zero h = inl refl
     sync-cut (suc k) h =
         let one : suc k - 1 ≡ k = omega arith in
@@ -347,11 +271,32 @@ module _ (P : ℕ) (d : Device) (f : ℕ) where
         (λ e. rw (e, none) (inr (rest-cut (d .media) (suc k) (untrimmed (ltb-false _ _ e)) (rw e at h))))
 
     pub sync-done : Stored (applyAll P (d .media) (syncPlan P d f))
-    unfolding syncPlan trimWrites
+    unfolding syncPlan trimWrites writeIf
     sync-done =
         cases (ltb (floorAt d f) (sizeAt (d .media) f))
         (λ e. rw e (rest-done (apply P (d .media) (trim f (floorAt d f))) trimmed))
         (λ e. rw e (rest-done (d .media) (untrimmed (ltb-false _ _ e))))
+
+-- each write is within the limits of the media, and to the file
+module _ (P : ℕ) (d : Device) (x : Fit P d) (frames : length (d .frames) ≡ framesBytes) (f : ℕ) (hf : f < files) where
+  pages-own : (n p : ℕ) → p + n ≤ P → All (Own P f) (pageWrites d f n p)
+  unfolding pageWrites
+  pages-own zero p h = tt
+  pages-own (suc n) p h =
+      all-join (Own P f) (writeIf (isCached d f p) (page f p (part (d .frames) (frameStart (slotOf d f p)) pageBytes))) _
+      (all-if (Own P f) (isCached d f p) _ (λ e.
+      let l : slotOf d f p < slotCount = ltb-true _ _ e in
+      ((hf, omega arith, length-part (d .frames) (frameStart (slotOf d f p)) pageBytes (omega arith)), refl)))
+      (pages-own n (suc p) (omega arith))
+
+  pub plan-own : All (Own P f) (syncPlan P d f)
+  unfolding syncPlan trimWrites sizeWrites
+  plan-own =
+      all-join (Own P f) (trimWrites d f) _
+      (all-if (Own P f) (ltb (floorAt d f) (sizeAt (d .media) f)) _ (λ e.
+      ((hf, omega (arith, x .sizes .floor-logical f hf, x .sizes .logical-fits f hf)), refl)))
+      (all-join (Own P f) (pageWrites d f P 0) _ (pages-own P 0 (omega arith))
+      (all-if (Own P f) (not (eqb (logicalAt d f) (floorAt d f))) _ (λ e. ((hf, x .sizes .logical-fits f hf), refl))))
 
 -- ---- the device after a sync that is done
 

@@ -163,8 +163,8 @@ module _ (P : ℕ) where
         (omega (arith, file-end P f hf, page-end P p hp, x .bytes))
 
     pub length-filled : length (filledPage P d f p) ≡ pageBytes
-    unfolding filledPage n over
-    length-filled = length-overwrite blankPage 0 over ∙ length-blank
+    unfolding filledPage
+    length-filled = rw length-overwrite length-blank
 
     filled-media : (r : ℕ) → r < pageBytes → pageBytes * p + r < floorAt d f → getD (filledPage P d f p) r 0 ≡ byteAt P (d .media) f (pageBytes * p + r)
     unfolding filledPage n over

@@ -1,32 +1,30 @@
--- Sync: document 01, "The calls". A plan of media writes, and as many of them done as the budget pays for.
+-- Sync: document 01, "The calls".
 use Prim.Native.Nat.{ℕ, zero, suc}
-use mathlib.Core.Bool.{Bool, true, cond}
-use mathlib.Core.List.{List, [], _∷_, _++_, map}
+use mathlib.Core.Bool.{Bool, true, not}
+use mathlib.Core.List.{List, [], _++_, map}
 use lib.Dec.{eqb, ltb}
-use lib.ListN.{length, take}
-use Rattle.answer.specs.Coded.{done, CUT}
 use Rattle.memory.specs.Bytes.{part}
 use Rattle.media.specs.Geometry.{pageBytes}
-use Rattle.media.specs.Write.{MediaWrite, sizeAt, applyAll}
+use Rattle.media.specs.Write.{MediaWrite, sizeAt}
 use Rattle.media.specs.Write.MediaWrite.{page, size, trim}
 use Rattle.cache.specs.declared.CacheState.{CacheState}
-use Rattle.cache.specs.Device.{Device, deviceOf, frameStart, slotOf, isCached, logicalAt, floorAt, freeWhere, withSlots, withFloor, downState}
-use Rattle.cache.specs.Admission.{Result, give, admit, fileTests}
+use Rattle.cache.specs.Device.{Device, frameStart, slotOf, isCached, logicalAt, floorAt, freeWhere, withSlots, withFloor}
+use Rattle.cache.specs.Admission.{Result, admit, fileTests}
+use Rattle.cache.specs.Plan.{writeIf, underBudget}
 
 -- TRIM to the floor, if that is below the stored size
 unfoldable pub trimWrites : Device → ℕ → List MediaWrite
-trimWrites d f = cond (ltb (floorAt d f) (sizeAt (d .media) f)) (trim f (floorAt d f) ∷ []) []
+trimWrites d f = writeIf (ltb (floorAt d f) (sizeAt (d .media) f)) (trim f (floorAt d f))
 
 -- PAGE for each cached page of file f, ascending: n pages from page p on are looked at
 unfoldable pub pageWrites : Device → ℕ → ℕ → ℕ → List MediaWrite
 pageWrites d f zero p = []
 pageWrites d f (suc n) p =
-    cond (isCached d f p) (page f p (part (d .frames) (frameStart (slotOf d f p)) pageBytes) ∷ []) []
-    ++ pageWrites d f n (suc p)
+    writeIf (isCached d f p) (page f p (part (d .frames) (frameStart (slotOf d f p)) pageBytes)) ++ pageWrites d f n (suc p)
 
 -- SIZE, if the logical size differs from the floor
 unfoldable pub sizeWrites : Device → ℕ → List MediaWrite
-sizeWrites d f = cond (eqb (logicalAt d f) (floorAt d f)) [] (size f (logicalAt d f) ∷ [])
+sizeWrites d f = writeIf (not (eqb (logicalAt d f) (floorAt d f))) (size f (logicalAt d f))
 
 unfoldable pub syncPlan : ℕ → Device → ℕ → List MediaWrite
 syncPlan P d f = trimWrites d f ++ (pageWrites d f P 0 ++ sizeWrites d f)
@@ -38,14 +36,6 @@ pagesOf f g p = eqb g f
 -- the state after a sync: the pages of file f are free, and its floor is its logical size
 unfoldable pub syncedState : Device → ℕ → CacheState
 syncedState d f = withFloor (withSlots (d .cache) (map (freeWhere (pagesOf f)) (d .cache .slots))) f (logicalAt d f)
-
--- a plan under a budget: done with the number of its writes, and the state s; or CUT after as many first writes as the
--- budget pays for, and down
-unfoldable pub underBudget : ℕ → ℕ → List MediaWrite → CacheState → Device → Result Device
-underBudget P budget plan s d =
-    cond (ltb budget (length plan))
-    (give (CUT budget) (deviceOf (applyAll P (d .media) (take budget plan)) (d .frames) downState))
-    (give (done (length plan)) (deviceOf (applyAll P (d .media) plan) (d .frames) s))
 
 unfoldable pub sync : ℕ → ℕ → ℕ → Device → Result Device
 sync P f budget d = admit (fileTests P d f true) d (underBudget P budget (syncPlan P d f) (syncedState d f) d)

@@ -29,7 +29,8 @@ use Rattle.cache.proofs.Sound.{Fit}
 use Rattle.cache.proofs.Admission.{passed, admit-answer, first-all, first-after, file-passes, mount-passes}
 use Rattle.cache.proofs.Reading.{read-by}
 use Rattle.cache.proofs.Writing.{write-by, write-leaves, write-stops, write-some, grown-room}
-use Rattle.cache.proofs.Syncing.{sync-by, budget-answer, syncedDevice, sync-done, synced-fit}
+use Rattle.cache.proofs.Plan.{budget-answer}
+use Rattle.cache.proofs.Syncing.{sync-by, syncedDevice, sync-done, synced-fit}
 use Rattle.cache.proofs.Truncating.{truncate-by, truncated-mounted}
 use Rattle.cache.proofs.Mounting.{mount-by}
 use Rattle.cache.proofs.Looking.{look-by, looked-most, looked-current}

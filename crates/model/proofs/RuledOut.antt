@@ -1,6 +1,7 @@
 -- Each wrong store fails a demand, in a run of a few calls.
-use mathlib.Core.Path.{_≡_, refl, ap}
+use mathlib.Core.Path.{_≡_, refl, sym, ap}
 use mathlib.Core.Bool.{false, false≢true}
+use mathlib.Core.Logic.{_⊎_, inl, inr}
 use mathlib.Core.List.{List, [], _∷_, _++_}
 use Prim.Native.Nat.{ℕ, zero, suc}
 use native.Mathlib.Omega.{arith}
@@ -11,7 +12,7 @@ use Rattle.answer.specs.Coded.{Coded, done, DOWN, NO-ROOM, CUT}
 use Rattle.memory.specs.Bytes.{zeros}
 use Rattle.media.specs.Geometry.{files, mediaBytes, fileStart}
 use Rattle.media.specs.Write.{mediaOf}
-use Rattle.cache.specs.Device.{Device, deviceOf, framesBytes, freeWhere, downState}
+use Rattle.cache.specs.Device.{Device, deviceOf, framesBytes, freeWhere, downState, mountedState}
 use Rattle.cache.specs.Sizes.{inOrder}
 use Rattle.cache.specs.Sound.{inRange, holdsAlone, isDown, soundTests, isSound}
 use Rattle.cache.specs.Current.{currentAt}
@@ -22,18 +23,24 @@ use Rattle.cache.specs.Writing.{blankPage, filledPage, cachePage, patchPage, pu
 use Rattle.cache.specs.Truncating as Truncating
 use Rattle.cache.specs.Truncating.{clearTail, withSizes, truncated}
 use Rattle.cache.specs.Syncing as Syncing
-use Rattle.cache.specs.Syncing.{trimWrites, pageWrites, sizeWrites, syncPlan, syncedState, underBudget}
+use Rattle.cache.specs.Syncing.{trimWrites, pageWrites, sizeWrites, syncPlan, syncedState}
+use Rattle.cache.specs.Plan.{writeIf, underBudget}
 use Rattle.cache.specs.Mounting as Mounting
-use Rattle.cache.specs.Mounting.{zeroFrom, trimsFrom, mountPlan}
+use Rattle.cache.specs.Mounting.{nonzeroFrom, trimsFrom, mountPlan}
 use Rattle.model.specs.ModelFile.{Becomes}
 use Rattle.model.specs.ModelFile.Entry.{written}
 use Rattle.model.specs.Run.Call.{read, write, truncate, sync, mount}
 use Rattle.model.specs.Run.Event.{call}
-use Rattle.model.specs.RuledOut.{RuledOut, slotWrites}
+use Rattle.model.specs.Claims.{Cases}
+use Rattle.model.specs.RuledOut.{spoils, cutMounted, RuledOut, slotWrites}
 
 -- a device that is down, with zeros on its media but for the first byte, and empty files
 blank : ℕ → ℕ → Device
 blank P first = deviceOf (mediaOf (set (zeros (mediaBytes P)) 0 first) (zeros files)) (zeros framesBytes) downState
+
+-- the same, mounted
+mounted : ℕ → Device
+mounted P = deviceOf (mediaOf (zeros (mediaBytes P)) (zeros files)) (zeros framesBytes) (mountedState (zeros files))
 
 -- two numbers that differ, and two lists or answers that differ in one of their numbers
 apart : (a b : ℕ) → eqb a b ≡ false → a ≡ b → ⊥
@@ -46,8 +53,10 @@ not-done : (a : Coded) → eqb (a .number) 0 ≡ false → (n : ℕ) × (a ≡ d
 not-done a e h = apart (a .number) 0 e (ap (λ (c : Coded). c .number) (h .1))
 
 pub ruled-out : RuledOut
-unfolding blank fileStart freeWhere inOrder inRange holdsAlone isDown soundTests isSound currentAt mediaShape framesShape sizesFit stateTests Reading.read blankPage filledPage cachePage patchPage putPage grown Writing.write clearTail withSizes truncated Truncating.truncate trimWrites pageWrites sizeWrites syncPlan syncedState underBudget Syncing.sync zeroFrom trimsFrom mountPlan Mounting.mount slotWrites
+unfolding blank mounted fileStart freeWhere inOrder inRange holdsAlone isDown soundTests isSound currentAt mediaShape framesShape sizesFit stateTests Reading.read blankPage filledPage cachePage patchPage putPage grown Writing.write clearTail withSizes truncated Truncating.truncate trimWrites pageWrites sizeWrites syncPlan syncedState writeIf underBudget Syncing.sync nonzeroFrom trimsFrom mountPlan Mounting.mount slotWrites
 ruled-out = (
+  λ h. spoilt (h (truncate 0 0) (mounted 1)),
+  λ h. still-mounted (h (sync 0 0) (mounted 1)),
   λ h. not-done DOWN refl (h (blank 1 0) 0 refl (call (read 0 0 []) ∷ []) .0 .0 (refl, refl, omega arith, omega arith)),
   λ h. not-done NO-ROOM refl (h (blank 1 0) 0 refl (call (write 0 0 (1 ∷ [])) ∷ []) .0 .0 (refl, refl, omega arith, omega arith)),
   λ h. not-done (CUT 18) refl (h (blank 1 0) 0 refl (call (sync 0 18) ∷ []) .0 .0 (refl, refl, omega arith)),
@@ -74,6 +83,15 @@ ruled-out = (
   λ h. apart 9 0 refl (at 0 _ _ (h (blank 1 9) 0 refl (call (truncate 0 1) ∷ call (sync 0 18) ∷ []) .1 .0 .2 refl)),
 )
   where
+    spoilt : Cases spoils (truncate 0 0) (mounted 1) → ⊥
+    spoilt (inl z) = apart 7 0 refl z
+    spoilt (inr (inl (k, lo, hi, a, e, o))) = apart 0 1 refl (ap (λ (c : Device). c .cache .mounted) e)
+
+    still-mounted : Cases cutMounted (sync 0 0) (mounted 1) → ⊥
+    still-mounted (inl z) = apart 9 0 refl z
+    still-mounted (inr (inl (k, lo, hi, a, e, o))) = let z : 9 ≡ k = ap (λ (c : Coded). c .number) a in absurd (omega arith)
+    still-mounted (inr (inr (a, e))) = false≢true (sym e)
+
     -- 7 and 8 were written over the end of page 0 and the start of page 1, and 8 alone is there
     middle-lost : Becomes (replicate 257 1) (written 256 (6 ∷ []) ∷ written 255 (7 ∷ 8 ∷ []) ∷ []) (replicate 256 1 ++ (8 ∷ [])) → ⊥
     middle-lost (zero, k, (zero, l, e)) = apart 1 8 refl (at 256 _ _ e)

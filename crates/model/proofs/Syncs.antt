@@ -17,7 +17,8 @@ use Rattle.cache.specs.Syncing as Syncing
 use Rattle.cache.specs.Syncing.{syncPlan}
 use Rattle.cache.proofs.Sound.{Fit}
 use Rattle.cache.proofs.Admission.{Mountable}
-use Rattle.cache.proofs.Syncing.{Own, all-take, sync-by, plan-own, own-other-byte, own-other-size, Ready, CutAt, Stored, boundary, sync-cut, sync-done, syncedDevice, synced-logical, synced-floor, synced-floor-other, synced-byte-other, synced-size-other, synced-own, synced-other, synced-fit}
+use Rattle.cache.proofs.Plan.{Own, all-take, own-other-byte, own-other-size}
+use Rattle.cache.proofs.Syncing.{sync-by, plan-own, Ready, CutAt, Stored, boundary, sync-cut, sync-done, syncedDevice, synced-logical, synced-floor, synced-floor-other, synced-byte-other, synced-size-other, synced-own, synced-other, synced-fit}
 use Rattle.model.specs.ModelFile.{afterSync}
 use Rattle.model.specs.Run.{Files, change, feed}
 use Rattle.model.specs.Run.Call.{sync}

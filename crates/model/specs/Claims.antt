@@ -39,13 +39,16 @@ module _ (I : Interface) where
   IsCut (sync f budget) r = (r .answer ≡ CUT budget) × (I .isMounted (r .device) ≡ false)
   IsCut (mount budget) r = (r .answer ≡ CUT budget) × (I .isMounted (r .device) ≡ false)
 
-  -- DEMAND 1: done; or one of the eight refusals that change nothing; or cut
-  abbrev pub Demand1 : Type 0
-  Demand1 =
-      (c : Call) (d : I .State) →
+  -- done; or refused for one of the eight that change nothing; or cut
+  abbrev pub Cases : Call → I .State → Type 0
+  Cases c d =
       let r : Reply (I .State) = I .does c d in
       IsDone (r .answer)
       ⊎ (((k : ℕ) × (0 < k) × (k < 9) × (r .answer ≡ refused k) × (r .device ≡ d) × (r .output ≡ asItCame c)) ⊎ IsCut c r)
+
+  -- DEMAND 1, of the answers and of what they leave: of any call on any device
+  abbrev pub Demand1 : Type 0
+  Demand1 = (c : Call) (d : I .State) → Cases c d
 
   -- ---- demand 2: POSIX
 

@@ -5,7 +5,7 @@ use mathlib.Core.Bool.{true, cond, _&&_}
 use mathlib.Core.List.{List, [], _∷_, _++_, map}
 use lib.Dec.{eqb, leb}
 use lib.ListN.{length}
-use Rattle.answer.specs.Coded.{done, DOWN, NO-ROOM, CUT}
+use Rattle.answer.specs.Coded.{done, DOWN, RANGE, NO-ROOM, CUT}
 use Rattle.memory.specs.Bytes.{zeros, part}
 use Rattle.media.specs.Geometry.{pageBytes, fileBytes}
 use Rattle.media.specs.Write.{MediaWrite, sizeAt}
@@ -14,9 +14,10 @@ use Rattle.cache.specs.declared.Slot.{Slot}
 use Rattle.cache.specs.Device.{Device, deviceOf, frameStart, freeWhere, logicalAt, withSlots, downState, mountedState}
 use Rattle.cache.specs.Admission.{Result, give, admit, mediaShape, sizesFit, fileTests}
 use Rattle.cache.specs.Truncating.{pagesFrom, clearTail, withSizes}
-use Rattle.cache.specs.Syncing.{trimWrites, pageWrites, sizeWrites, syncedState, underBudget}
+use Rattle.cache.specs.Syncing.{trimWrites, pageWrites, sizeWrites, syncedState}
+use Rattle.cache.specs.Plan.{writeIf, underBudget}
 use Rattle.model.specs.Run.{Interface}
-use Rattle.model.specs.Claims.{Demand2, Demand3}
+use Rattle.model.specs.Claims.{Demand1, Demand2, Demand3}
 use Rattle.model.specs.Store.{Calls, storeWith, storeCalls}
 
 -- ---- this store with one call changed
@@ -94,13 +95,21 @@ dropsMount =
     withWrite 1 (λ f position bytes d.
     let r : Result Device = storeCalls 1 .writing f position bytes d in give (r .answer) (deviceOf (r .left .media) (r .left .frames) downState))
 
+-- a refusal that changes something
+abbrev pub spoils : Interface
+spoils = withTruncate 1 (λ f n d. give RANGE (deviceOf (d .media) (d .frames) downState))
+
+-- a cut that leaves the device mounted
+abbrev pub cutMounted : Interface
+cutMounted = withSync 1 (λ f budget d. give (CUT budget) d)
+
 -- ---- the traps
 
 -- storing pages in slot order
 unfoldable pub slotWrites : List Slot → ℕ → List ℕ → ℕ → List MediaWrite
 slotWrites [] k frames f = []
 slotWrites (s ∷ slots) k frames f =
-    cond (s .used && eqb (s .file) f) (page f (s .page) (part frames (frameStart k) pageBytes) ∷ []) [] ++ slotWrites slots (suc k) frames f
+    writeIf (s .used && eqb (s .file) f) (page f (s .page) (part frames (frameStart k) pageBytes)) ++ slotWrites slots (suc k) frames f
 
 abbrev pub inSlotOrder : Interface
 inSlotOrder = withPlan 2 (λ d f. trimWrites d f ++ (slotWrites (d .cache .slots) 0 (d .frames) f ++ sizeWrites d f))
@@ -132,7 +141,9 @@ mountLeaves = withMount 1 (λ budget d. admit (mediaShape 1 d ++ sizesFit 1 d) d
 
 abbrev pub RuledOut : Type 0
 RuledOut =
-    (Demand2 idle → ⊥)
+    (Demand1 spoils → ⊥)
+    × (Demand1 cutMounted → ⊥)
+    × (Demand2 idle → ⊥)
     × (Demand2 neverRoom → ⊥)
     × (Demand2 alwaysCut → ⊥)
     × (Demand2 constantRead → ⊥)

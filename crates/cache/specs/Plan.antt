@@ -1,0 +1,22 @@
+-- A plan: a list of media writes, of which as many are done as the budget pays for.
+use Prim.Native.Nat.{ℕ}
+use mathlib.Core.Bool.{Bool, cond}
+use mathlib.Core.List.{List, [], _∷_}
+use lib.Dec.{ltb}
+use lib.ListN.{length, take}
+use Rattle.answer.specs.Coded.{done, CUT}
+use Rattle.media.specs.Write.{MediaWrite, applyAll}
+use Rattle.cache.specs.declared.CacheState.{CacheState}
+use Rattle.cache.specs.Device.{Device, deviceOf, downState}
+use Rattle.cache.specs.Admission.{Result, give}
+
+-- a write that is needed only if
+unfoldable pub writeIf : Bool → MediaWrite → List MediaWrite
+writeIf b w = cond b (w ∷ []) []
+
+-- done with the number of writes, and the state s; or CUT after as many first writes as the budget pays for, and down
+unfoldable pub underBudget : ℕ → ℕ → List MediaWrite → CacheState → Device → Result Device
+underBudget P budget plan s d =
+    cond (ltb budget (length plan))
+    (give (CUT budget) (deviceOf (applyAll P (d .media) (take budget plan)) (d .frames) downState))
+    (give (done (length plan)) (deviceOf (applyAll P (d .media) plan) (d .frames) s))
