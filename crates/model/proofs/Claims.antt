@@ -1,17 +1,20 @@
 -- Demands 2 and 3, and the closed form behind demand 3, of this store.
-use mathlib.Core.Path.{refl}
+use mathlib.Core.Path.{refl, sym, _∙_}
 use Prim.Native.Nat.{ℕ}
 use lib.Dec.{eqb}
+use Rattle.media.specs.Geometry.{pagesPerFile}
 use borrow.Table.Steps.{cases}
 use Rattle.answer.specs.Coded.{Coded}
 use Rattle.answer.specs.Admission.{ifDone}
 use Rattle.model.specs.Run.{World, Event, step}
 use Rattle.model.specs.Run.Call.{read, look, write, truncate, sync, mount}
 use Rattle.model.specs.Run.Event.{call, powerLost}
-use Rattle.model.specs.Claims.{Served, Demand2, Explained, Demand3}
+use Rattle.model.specs.Claims.{Demand1, Served, Demand2, Explained, Demand3}
 use Rattle.model.specs.States.{FindsState, ClosedForm}
 use Rattle.model.specs.Store.{store, storeDoes, storeMedia}
-use Rattle.model.proofs.ModelFile.{state-becomes}
+use Rattle.model.specs.Floor.{FloorIsSmallest, Floor}
+use Rattle.model.proofs.ModelFile.{length-replay, state-becomes}
+use Rattle.model.proofs.Refusals.{demand-1}
 use Rattle.model.proofs.Run.{throughout, weaker}
 use Rattle.model.proofs.Invariant.{Invariant, same-found}
 use Rattle.model.proofs.Writes.{keeps-write}
@@ -101,3 +104,14 @@ module _ (P : ℕ) where
   pub demand-3 : Demand3 (store P)
   demand-3 d budget is es =
       weaker (store P) (FindsState (store P)) (Explained (store P)) explained _ es (closed-form d budget is es)
+
+  floor-smallest : (w : World (store P)) (e : Event (store P)) → Holds w → FloorIsSmallest P w e
+  floor-smallest w e inv up f hf =
+      sym (inv .mounted up f hf .mixed 0 .size-is) ∙ length-replay 0 (w .files f .durable) (w .files f .log)
+
+  pub floor : Floor P
+  floor d budget is es = throughout (store P) Holds keeps (FloorIsSmallest P) floor-smallest _ es (starts P d budget is)
+
+-- at document 01's sixteen pages
+pub this-store : Demand1 (store pagesPerFile) × Demand2 (store pagesPerFile) × Demand3 (store pagesPerFile)
+this-store = (demand-1 pagesPerFile, demand-2 pagesPerFile, demand-3 pagesPerFile)

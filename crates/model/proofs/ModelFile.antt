@@ -5,14 +5,15 @@ use mathlib.Core.List.{List, [], _∷_, _++_}
 use Prim.Native.Nat.{ℕ, zero, suc, _+_, _-_, _*_, _≤_, _<_, min, max}
 use native.Mathlib.Nat.{not-suc-le-zero, le-of-suc-le-suc, suc-sub-suc, sub-zero}
 use native.Mathlib.Omega.{arith}
-use lib.ListN.{length, getD, take, drop, length-append, length-drop, List·getD-eq-default, List·getD-append}
+use lib.ListN.{length, getD, take, drop, length-take, length-append, length-drop, List·getD-eq-default, List·getD-append}
 use lib.Seq.{getD-drop, getD-append-add, take-all, take-length}
 use borrow.Author.Tests.{lt-ltb, le-ltb}
-use Rattle.memory.proofs.Cases.{split-lt}
+use Rattle.memory.proofs.Cases.{split-lt, split-eq}
 use Rattle.media.specs.Geometry.{pageBytes}
 use Rattle.model.specs.ModelFile.{Entry, ModelFile, lay, posixWrite, posixTruncate, Becomes, afterWrite}
 use Rattle.model.specs.ModelFile.Entry.{written, truncated}
 use Rattle.model.specs.States.{redo, replay, State}
+use Rattle.model.specs.Floor.{smallest}
 
 -- ---- truncate
 
@@ -87,6 +88,26 @@ logged-some n (b ∷ bytes) m h = refl
 pub replay-one-more : (boundary : ℕ) (file : List ℕ) (log : List Entry) (e : Entry) → replay boundary file (log ++ (e ∷ [])) ≡ redo boundary (replay boundary file log) e
 replay-one-more boundary file [] e = refl
 replay-one-more boundary file (x ∷ log) e = replay-one-more boundary (redo boundary file x) log e
+
+-- a replay is as long as the smallest truncate
+length-redone : (boundary : ℕ) (file : List ℕ) (n : ℕ) (bytes : List ℕ) → length (redo boundary file (written n bytes)) ≡ length file
+length-redone boundary file n bytes =
+    let k : ℕ = min boundary (length file) - n in
+    let l : length (take k bytes) ≡ min k (length bytes) = length-take k bytes in
+    split-eq (length (take k bytes)) 0
+    (λ e. rw (write-none file n (take k bytes) e))
+    (λ ne. rw (write-some file n (take k bytes) (omega arith)) (omega (arith, length-lay file n (take k bytes))))
+
+pub length-replay : (boundary : ℕ) (file : List ℕ) (log : List Entry) → length (replay boundary file log) ≡ smallest (length file) log
+length-replay boundary file [] = refl
+length-replay boundary file (written n bytes ∷ log) =
+    length-replay boundary (redo boundary file (written n bytes)) log ∙ ap (λ (k : ℕ). smallest k log) (length-redone boundary file n bytes)
+length-replay boundary file (truncated n ∷ log) =
+    length-replay boundary (redo boundary file (truncated n)) log
+    ∙ ap (λ (k : ℕ). smallest k log)
+    (split-lt n (length file)
+    (λ h. rw (lt-ltb n (length file) h) (length-truncate file n ∙ omega arith))
+    (λ h. rw (le-ltb n (length file) h) (omega arith)))
 
 -- every entry left out
 pub none-becomes : (file : List ℕ) (log : List Entry) → Becomes file log file
