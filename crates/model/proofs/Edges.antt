@@ -16,4 +16,4 @@ use Rattle.cache.specs.Device.{freeWhere}
 
 pub edges : Edges
 unfolding fileStart freeWhere blankPage soundTests inOrder inRange holdsAlone isDown isSound currentAt mediaShape framesShape sizesFit stateTests read filledPage cachePage patchPage putPage grown write clearTail withSizes truncated truncate trimWrites pageWrites sizeWrites syncPlan syncedState writeIf underBudget sync nonzeroFrom trimsFrom mountPlan mount formatPlan format usedDevice mountedDevice table
-edges = refl
+edges = (refl, refl, refl)

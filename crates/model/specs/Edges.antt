@@ -10,7 +10,8 @@ use Rattle.memory.specs.Bytes.{zeros}
 use Rattle.media.specs.Geometry.{files, pagesPerFile, fileBytes, mediaBytes}
 use Rattle.media.specs.Write.{mediaOf}
 use Rattle.cache.specs.Scan.{every}
-use Rattle.cache.specs.Device.{Device, deviceOf, framesBytes, logicalAt, downState}
+use Rattle.cache.specs.Device.{Device, deviceOf, framesBytes, logicalAt, downState, mountedState}
+use Rattle.cache.specs.Admission.{give}
 use Rattle.cache.specs.Mounting as Mounting
 use Rattle.model.specs.Run.{Call, Reply}
 use Rattle.model.specs.Run.Call.{read, write, truncate, sync, mount}
@@ -43,13 +44,14 @@ plays d (gives c answer output ∷ lines) =
 plays d (hasSize f n ∷ lines) = cond (eqb (logicalAt d f) n) (plays d lines) false
 plays d (onMedia f bytes ∷ lines) = cond (sameBytes (storeMedia pagesPerFile d f) bytes) (plays d lines) false
 
--- a device in use, whose every byte is 255 and whose files have their greatest size; it is formatted and mounted
+-- a device in use: every byte is 255, and the files have their greatest size
 unfoldable pub usedDevice : Device
 usedDevice =
     deviceOf (mediaOf (replicate (mediaBytes pagesPerFile) 255) (replicate files (fileBytes pagesPerFile))) (replicate framesBytes 255) downState
 
+-- it, formatted and mounted
 unfoldable pub mountedDevice : Device
-mountedDevice = Mounting.mount pagesPerFile 0 (Mounting.format pagesPerFile 8 usedDevice .left) .left
+mountedDevice = deviceOf (mediaOf (zeros (mediaBytes pagesPerFile)) (zeros files)) (replicate framesBytes 255) (mountedState (zeros files))
 
 -- n bytes of one value
 abbrev pub A : ℕ → List ℕ
@@ -120,6 +122,9 @@ table =
     ∷ []))
     ∷ []
 
--- THE EDGES: every case of the table plays, from a formatted and mounted device
+-- THE EDGES: a format takes eight TRIMs, a mount then none, and from there every case of the table plays
 abbrev pub Edges : Type 0
-Edges = every (plays mountedDevice) table ≡ true
+Edges =
+    (Mounting.format pagesPerFile 8 usedDevice .answer ≡ done 8)
+    × (Mounting.mount pagesPerFile 0 (Mounting.format pagesPerFile 8 usedDevice .left) ≡ give (done 0) mountedDevice)
+    × (every (plays mountedDevice) table ≡ true)
