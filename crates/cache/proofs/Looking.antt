@@ -11,14 +11,16 @@ use Rattle.answer.specs.Coded.{Coded, refused, done}
 use Rattle.answer.specs.Admission.{ifDone}
 use Rattle.memory.specs.Bytes.{part}
 use Rattle.memory.proofs.Cases.{split-lt}
-use Rattle.memory.proofs.Bytes.{getD-part}
-use Rattle.media.specs.Geometry.{pageBytes, fileBytes, fileStart}
-use Rattle.cache.specs.Device.{Device, slotCount, frameStart, slotOf, logicalAt, floorAt}
+use Rattle.memory.proofs.Bytes.{length-part, getD-part}
+use Rattle.media.specs.Geometry.{files, pageBytes, fileBytes, fileStart}
+use Rattle.media.proofs.Geometry.{file-end}
+use Rattle.cache.specs.Device.{Device, slotCount, framesBytes, frameStart, slotOf, logicalAt, floorAt}
 use Rattle.cache.specs.Current.{currentAt}
 use Rattle.cache.specs.Admission.{fileTests}
 use Rattle.cache.specs.Looking.{toPageEnd, lookCount, lookedAt, look}
 use Rattle.cache.proofs.Admission.{Admitted, first-by, file-alone, file-admitted}
-use Rattle.cache.proofs.Current.{current-cached, current-media}
+use Rattle.cache.proofs.Current.{current-cached, current-media, current-zero}
+use Rattle.cache.proofs.Sound.{Fit}
 
 -- refused and empty, or done
 pub look-by : (P f position : ℕ) (d : Device) (Q : Coded → List ℕ → Type 0)
@@ -79,3 +81,24 @@ module _ (P : ℕ) (d : Device) (f position : ℕ) where
       (getD-part (d .media .bytes) a n k hk
       ∙ ap (λ (j : ℕ). getD (d .media .bytes) j 0) (omega arith)
       ∙ sym (current-media P d f (position + k) (position / pageBytes) (omega arith) l (omega arith))))
+
+  -- what is left out of the count is 0
+  pub looked-rest : Fit P d → length (d .frames) ≡ framesBytes → f < files → (k : ℕ) → length (lookedAt P f position d) ≤ k
+      → k < toPageEnd position (logicalAt d f) → currentAt P d f (position + k) ≡ 0
+  looked-rest x frames hf k lo hi =
+      split-lt (slotOf d f (position / pageBytes)) slotCount
+      (λ l.
+      let a : ℕ = frameStart (slotOf d f (position / pageBytes)) + position % pageBytes in
+      let n : ℕ = toPageEnd position (logicalAt d f) in
+      let e : length (lookedAt P f position d) ≡ n = ap length (from-frame l) ∙ length-part (d .frames) a n (omega arith) in
+      absurd (omega arith))
+      (λ l.
+      let n : ℕ = toPageEnd position (floorAt d f) in
+      split-lt position (floorAt d f)
+      (λ h.
+      let e : length (lookedAt P f position d) ≡ n =
+      ap length (from-media l)
+      ∙ length-part (d .media .bytes) (fileStart P f + position) n
+      (omega (arith, file-end P f hf, x .bytes, x .sizes .floor-logical f hf, x .sizes .logical-fits f hf)) in
+      current-zero P d f (position + k) (position / pageBytes) (omega arith) l (omega arith))
+      (λ h. current-zero P d f (position + k) (position / pageBytes) (omega arith) l (omega arith)))

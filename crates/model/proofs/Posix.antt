@@ -6,14 +6,14 @@ use mathlib.Core.List.{List, [], _∷_, _++_}
 use Prim.Native.Nat.{ℕ, _+_, _-_, _%_, _≤_, _<_, min}
 use native.Mathlib.Omega.{arith}
 use lib.Dec.{eqb, leb}
-use lib.ListN.{length, getD, drop}
+use lib.ListN.{length, getD, drop, length-replicate}
 use lib.Seq.{ext-getD}
 use borrow.Author.Tests.{eqb-true, leb-true, ne-eqb, le-leb}
 use Rattle.answer.specs.Coded.{Coded, done, CUT, NO-ROOM}
 use Rattle.answer.specs.Admission.{Test, test, firstRefusal, ifDone}
-use Rattle.memory.specs.Bytes.{part, overwrite}
+use Rattle.memory.specs.Bytes.{zeros, part, overwrite}
 use Rattle.memory.proofs.Cases.{split-eq}
-use Rattle.memory.proofs.Bytes.{length-part, getD-part}
+use Rattle.memory.proofs.Bytes.{getD-zeros, length-part, getD-part}
 use Rattle.media.specs.Geometry.{files, pageBytes, fileBytes}
 use Rattle.cache.specs.Device.{Device, framesBytes, logicalAt}
 use Rattle.cache.specs.Current.{currentAt, currentBytes}
@@ -33,7 +33,7 @@ use Rattle.cache.proofs.Plan.{budget-answer}
 use Rattle.cache.proofs.Syncing.{sync-by, syncedDevice, sync-done, synced-fit}
 use Rattle.cache.proofs.Truncating.{truncate-by, truncated-mounted}
 use Rattle.cache.proofs.Mounting.{mount-by}
-use Rattle.cache.proofs.Looking.{look-by, looked-most, looked-current}
+use Rattle.cache.proofs.Looking.{look-by, looked-most, looked-current, looked-rest}
 use Rattle.model.specs.Run.{Files}
 use Rattle.model.specs.Claims.{IsDone}
 use Rattle.model.specs.Store.{storeMedia}
@@ -149,6 +149,28 @@ module _ (P : ℕ) (d : Device) (fs : Files) (inv : Invariant P d fs) where
         none [] e = refl
         none (y ∷ xs) e = absurd (omega arith)
 
+    -- and what it leaves out of its count is zeros
+    looked-zeros : length (d .frames) ≡ framesBytes → (position : ℕ) →
+        let n : ℕ = length (lookedAt P f position d) in
+        let rest : ℕ = toPageEnd position (logicalAt d f) - n in
+        part file (position + n) rest ≡ zeros rest
+    looked-zeros frames position =
+        let n : ℕ = length (lookedAt P f position d) in
+        let m : ℕ = toPageEnd position (logicalAt d f) in
+        let short : m ≤ logicalAt d f - position = omega arith in
+        split-eq (m - n) 0
+        (λ e. rw e)
+        (λ ne.
+        ext-getD 0 (part file (position + n) (m - n)) (zeros (m - n))
+        (length-part file (position + n) (m - n) (omega (arith, size-is)) ∙ sym (length-replicate (m - n) 0))
+        (λ i l.
+        let l′ : i < m - n = rw (length-part file (position + n) (m - n) (omega (arith, size-is))) at l in
+        let at : position + n + i ≡ position + (n + i) = omega arith in
+        getD-part file (position + n) (m - n) i l′
+        ∙ byte-is (position + n + i) (omega (arith, fits))
+        ∙ rw at (looked-rest P d f position (inv .fit up) frames hf (n + i) (omega arith) (omega arith))
+        ∙ sym (getD-zeros (m - n) i)))
+
   pub read-posix : (f position : ℕ) (buffer : List ℕ) →
       let r : Result (List ℕ) = read P f position buffer d in
       (IsDone (r .answer) → r .answer .count ≡ min (length buffer) (length (fs f .current) - position))
@@ -170,17 +192,20 @@ module _ (P : ℕ) (d : Device) (fs : Files) (inv : Invariant P d fs) where
       (IsDone a → a .count ≡ min (pageBytes - position % pageBytes) (length (fs f .current) - position))
       × (length output ≤ a .count)
       × (output ≡ part (fs f .current) position (length output))
+      × (let rest : ℕ = a .count - length output in part (fs f .current) (position + length output) rest ≡ zeros rest)
   unfolding file
   look-posix f position =
       look-by P f position d
       (λ a output. (IsDone a → a .count ≡ min (pageBytes - position % pageBytes) (length (fs f .current) - position))
       × (length output ≤ a .count)
-      × (output ≡ part (fs f .current) position (length output)))
-      (λ k lo hi. (λ z. absurd (omega arith), omega arith, refl))
+      × (output ≡ part (fs f .current) position (length output))
+      × (let rest : ℕ = a .count - length output in part (fs f .current) (position + length output) rest ≡ zeros rest))
+      (λ k lo hi. (λ z. absurd (omega arith), omega arith, refl, refl))
       (λ ad. (
         λ _. rw (size-is f (ad .file) (ad .mounted)),
         looked-most P d f position (inv .fit (ad .mounted) .sizes .floor-logical f (ad .file)),
         looked-part f (ad .file) (ad .mounted) position,
+        looked-zeros f (ad .file) (ad .mounted) (ad .frames) position,
       ))
 
   pub write-posix : (f position : ℕ) (bytes : List ℕ) →

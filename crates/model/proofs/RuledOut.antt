@@ -18,6 +18,7 @@ use Rattle.cache.specs.Sound.{inRange, holdsAlone, isDown, soundTests, isSound}
 use Rattle.cache.specs.Current.{currentAt}
 use Rattle.cache.specs.Admission.{mediaShape, framesShape, sizesFit, stateTests}
 use Rattle.cache.specs.Reading as Reading
+use Rattle.cache.specs.Looking as Looking
 use Rattle.cache.specs.Writing as Writing
 use Rattle.cache.specs.Writing.{blankPage, filledPage, cachePage, patchPage, putPage, grown}
 use Rattle.cache.specs.Truncating as Truncating
@@ -29,7 +30,7 @@ use Rattle.cache.specs.Mounting as Mounting
 use Rattle.cache.specs.Mounting.{nonzeroFrom, trimsFrom, mountPlan}
 use Rattle.model.specs.ModelFile.{Becomes}
 use Rattle.model.specs.ModelFile.Entry.{written}
-use Rattle.model.specs.Run.Call.{read, write, truncate, sync, mount}
+use Rattle.model.specs.Run.Call.{read, look, write, truncate, sync, mount}
 use Rattle.model.specs.Run.Event.{call}
 use Rattle.model.specs.Claims.{Cases}
 use Rattle.model.specs.RuledOut.{spoils, cutMounted, RuledOut, slotWrites}
@@ -53,7 +54,7 @@ not-done : (a : Coded) → eqb (a .number) 0 ≡ false → (n : ℕ) × (a ≡ d
 not-done a e h = apart (a .number) 0 e (ap (λ (c : Coded). c .number) (h .1))
 
 pub ruled-out : RuledOut
-unfolding blank mounted fileStart freeWhere inOrder inRange holdsAlone isDown soundTests isSound currentAt mediaShape framesShape sizesFit stateTests Reading.read blankPage filledPage cachePage patchPage putPage grown Writing.write clearTail withSizes truncated Truncating.truncate trimWrites pageWrites sizeWrites syncPlan syncedState writeIf underBudget Syncing.sync nonzeroFrom trimsFrom mountPlan Mounting.mount slotWrites
+unfolding blank mounted fileStart freeWhere inOrder inRange holdsAlone isDown soundTests isSound currentAt mediaShape framesShape sizesFit stateTests Reading.read Looking.lookCount blankPage filledPage cachePage patchPage putPage grown Writing.write clearTail withSizes truncated Truncating.truncate trimWrites pageWrites sizeWrites syncPlan syncedState writeIf underBudget Syncing.sync nonzeroFrom trimsFrom mountPlan Mounting.mount slotWrites
 ruled-out = (
   λ h. spoilt (h (truncate 0 0) (mounted 1)),
   λ h. still-mounted (h (sync 0 0) (mounted 1)),
@@ -62,6 +63,7 @@ ruled-out = (
   λ h. not-done (CUT 18) refl (h (blank 1 0) 0 refl (call (sync 0 18) ∷ []) .0 .0 (refl, refl, omega arith)),
   λ h. apart 0 1 refl (at 0 _ _ (h (blank 1 0) 0 refl (call (write 0 0 (1 ∷ [])) ∷ call (read 0 0 (2 ∷ [])) ∷ []) .1 .0 .2 .1)),
   λ h. apart 2 1 refl (at 0 _ _ (h (blank 1 0) 0 refl (call (write 0 0 (1 ∷ [])) ∷ call (read 0 0 (2 ∷ [])) ∷ []) .1 .0 .2 .1)),
+  λ h. apart 1 0 refl (at 0 _ _ (h (blank 1 0) 0 refl (call (write 0 0 (1 ∷ [])) ∷ call (look 0 0) ∷ []) .1 .0 .2 .3)),
   λ h. apart 1 2 refl
       (at 0 _ _ (h (blank 1 0) 0 refl (call (write 0 0 (1 ∷ [])) ∷ call (sync 0 18) ∷ call (write 0 0 (2 ∷ [])) ∷ call (sync 0 18) ∷ []) .1 .1 .1 .0 .2 refl)),
   λ h. false≢true (h (blank 1 0) 0 refl (call (write 0 0 (1 ∷ [])) ∷ []) .0 .1),

@@ -8,7 +8,7 @@ use lib.Dec.{eqb}
 use lib.ListN.{length, drop}
 use Rattle.answer.specs.Coded.{Coded, done, refused, NO-ROOM, CUT}
 use Rattle.answer.specs.Admission.{firstRefusal, ifDone}
-use Rattle.memory.specs.Bytes.{part, overwrite}
+use Rattle.memory.specs.Bytes.{zeros, part, overwrite}
 use Rattle.media.specs.Geometry.{files, pageBytes}
 use Rattle.model.specs.ModelFile.{Becomes}
 use Rattle.model.specs.Run.{Call, Reply, Interface, World, Event, start, Throughout}
@@ -88,13 +88,15 @@ module _ (I : Interface) where
       let file : List ℕ = w .files f .current in
       (IsDone (r .answer) → r .answer .count ≡ min (length buffer) (length file - position))
       × (r .output ≡ ifDone (r .answer) (overwrite buffer 0 (part file position (r .answer .count))) buffer)
-  -- bytes of the file, not more than the count, which is to the end of the page or of the file, the nearer
+  -- bytes of the file, as many as the count or fewer; the count is to the end of the page or of the file, the nearer, and
+  -- what is left out of it is zeros
   AsPosix w (look f position) =
       let r : Reply (I .State) = I .does (look f position) (w .device) in
       let file : List ℕ = w .files f .current in
       (IsDone (r .answer) → r .answer .count ≡ min (pageBytes - position % pageBytes) (length file - position))
       × (length (r .output) ≤ r .answer .count)
       × (r .output ≡ part file position (length (r .output)))
+      × (let rest : ℕ = r .answer .count - length (r .output) in part file (position + length (r .output)) rest ≡ zeros rest)
   -- all bytes, or those up to a page before which it stops: the rest would be NO ROOM
   AsPosix w (write f position bytes) =
       let r : Reply (I .State) = I .does (write f position bytes) (w .device) in

@@ -28,6 +28,11 @@ module _ (P : ℕ) where
       let s : Calls = storeCalls P in
       storeWith P (record { reading = h; looking = s .looking; writing = s .writing; truncating = s .truncating; syncing = s .syncing; mounting = s .mounting })
 
+  abbrev pub withLook : (ℕ → ℕ → Device → Result (List ℕ)) → Interface
+  withLook h =
+      let s : Calls = storeCalls P in
+      storeWith P (record { reading = s .reading; looking = h; writing = s .writing; truncating = s .truncating; syncing = s .syncing; mounting = s .mounting })
+
   abbrev pub withWrite : (ℕ → ℕ → List ℕ → Device → Result Device) → Interface
   withWrite h =
       let s : Calls = storeCalls P in
@@ -82,6 +87,10 @@ constantRead = withRead 1 (λ f position buffer d. give (storeCalls 1 .reading f
 -- a read that copies none
 abbrev pub copiesNone : Interface
 copiesNone = withRead 1 (λ f position buffer d. give (storeCalls 1 .reading f position buffer d .answer) buffer)
+
+-- a look that hands back nothing
+abbrev pub emptyLook : Interface
+emptyLook = withLook 1 (λ f position d. give (storeCalls 1 .looking f position d .answer) [])
 
 -- a sync that stores the first time and pretends afterwards
 abbrev pub pretends : Interface
@@ -148,6 +157,7 @@ RuledOut =
     × (Demand2 alwaysCut → ⊥)
     × (Demand2 constantRead → ⊥)
     × (Demand2 copiesNone → ⊥)
+    × (Demand2 emptyLook → ⊥)
     × (Demand2 pretends → ⊥)
     × (Demand2 dropsMount → ⊥)
     × (Demand3 inSlotOrder → ⊥)
