@@ -1,14 +1,15 @@
 -- Laws of the order of refusals.
 use mathlib.Core.Path.{_≡_, refl, sym, ap, _∙_}
+use mathlib.Core.Logic.{_≢_}
 use mathlib.Core.Bool.{Bool, true, false, cond, false≢true}
 use mathlib.Core.List.{List, [], _∷_, _++_}
-use Prim.Native.Nat.{ℕ, zero, suc}
+use Prim.Native.Nat.{ℕ, zero, suc, _<_}
 use lib.Dec.{eqb}
 use lib.ListN.{getD}
 use borrow.Author.Tests.{eq-eqb}
 use borrow.Table.Steps.{cases}
 use Rattle.answer.specs.declared.Refusal.{Refusal}
-use Rattle.answer.specs.Coded.{Coded, codedRefusal}
+use Rattle.answer.specs.Coded.{Coded, refused, LINE, codedRefusal}
 use Rattle.answer.proofs.Coded.{refusal-number}
 use Rattle.answer.specs.Admission.{Test, test, firstRefusal, ifDone}
 
@@ -52,3 +53,52 @@ pub first-refused : (ts us : List Test) (a b : Coded) (r : Refusal) → a .numbe
 first-refused [] us a b r h e = absurd (false≢true (sym (refusal-number r) ∙ eq-eqb _ _ (ap (λ (k : Coded). k .number) e ∙ h)))
 first-refused (t ∷ ts) us a b r h e =
     cases (t .holds) (λ q. rw q (first-refused ts us a b r h (rw q at e))) (λ q. rw q (rw q at e))
+
+-- ---- tests that all hold
+
+abbrev pub passed : List Test → Bool
+passed [] = true
+passed (t ∷ ts) = cond (t .holds) (passed ts) false
+
+passed-head : (t : Test) (ts : List Test) → passed (t ∷ ts) ≡ true → t .holds ≡ true
+passed-head t ts e = cases (t .holds) (λ h. h) (λ h. absurd (false≢true (rw h at e)))
+
+passed-tail : (t : Test) (ts : List Test) → passed (t ∷ ts) ≡ true → passed ts ≡ true
+passed-tail t ts e = rw (passed-head t ts e) at e
+
+pub passed-at : (ts : List Test) → passed ts ≡ true → (k : ℕ) → (getD ts k (test true LINE)) .holds ≡ true
+passed-at [] e k = refl
+passed-at (t ∷ ts) e zero = passed-head t ts e
+passed-at (t ∷ ts) e (suc k) = passed-at ts (passed-tail t ts e) k
+
+-- the first of many, and the rest
+pub passed-first : (ts us : List Test) → passed (ts ++ us) ≡ true → passed ts ≡ true
+passed-first [] us e = refl
+passed-first (t ∷ ts) us e = rw (passed-head t (ts ++ us) e) (passed-first ts us (passed-tail t (ts ++ us) e))
+
+pub passed-rest : (ts us : List Test) → passed (ts ++ us) ≡ true → passed us ≡ true
+passed-rest [] us e = e
+passed-rest (t ∷ ts) us e = passed-rest ts us (passed-tail t (ts ++ us) e)
+
+pub first-all : (ts : List Test) (a : Coded) → passed ts ≡ true → firstRefusal ts a ≡ a
+first-all [] a e = refl
+first-all (t ∷ ts) a e = rw (passed-head t ts e) (first-all ts a (passed-tail t ts e))
+
+-- two lists, one after the other
+pub first-join : (ts us : List Test) (a : Coded) → firstRefusal (ts ++ us) a ≡ firstRefusal ts (firstRefusal us a)
+first-join [] us a = refl
+first-join (t ∷ ts) us a = cases (t .holds) (λ h. rw h (first-join ts us a)) (λ h. rw h)
+
+-- the refusals of a list are among those that change nothing: neither done nor CUT
+abbrev pub Changeless : List Test → Type 0
+Changeless [] = Unit {0}
+Changeless (t ∷ ts) = ((k : ℕ) × (0 < k) × (k ≢ 9) × (t .refusal ≡ refused k)) × Changeless ts
+
+-- an answer is such a refusal, or all tests hold
+pub first-by : (Q : Coded → Type 0) (ts : List Test) (a : Coded) → Changeless ts → ((k : ℕ) → 0 < k → k ≢ 9 → Q (refused k))
+    → (passed ts ≡ true → Q a) → Q (firstRefusal ts a)
+first-by Q [] a e fails holds = holds refl
+first-by Q (t ∷ ts) a e fails holds =
+    cases (t .holds)
+    (λ h. rw h (first-by Q ts a (e .1) fails (λ p. holds (rw h p))))
+    (λ h. rw (h, e .0 .3) (fails (e .0 .0) (e .0 .1) (e .0 .2)))

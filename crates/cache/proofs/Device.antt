@@ -64,7 +64,7 @@ free-apart d k f p free h e =
 -- ---- slots that are freed
 
 module _ (among : ℕ → ℕ → Bool) (f p : ℕ) where
-  pub freed-gone : (s : Slot) → among f p ≡ true → holds f p (freeWhere among s) ≡ false
+  freed-gone : (s : Slot) → among f p ≡ true → holds f p (freeWhere among s) ≡ false
   unfolding freeWhere
   freed-gone s e =
       cases (s .used && among (s .file) (s .page))
@@ -73,7 +73,7 @@ module _ (among : ℕ → ℕ → Bool) (f p : ℕ) where
       let x = holds-is f p s t in
       true-not-false (s .used && among (s .file) (s .page)) (rw (x .0, x .1, x .2) e) h)))
 
-  pub freed-stays : (s : Slot) → among f p ≡ false → holds f p (freeWhere among s) ≡ holds f p s
+  freed-stays : (s : Slot) → among f p ≡ false → holds f p (freeWhere among s) ≡ holds f p s
   unfolding freeWhere
   freed-stays s e =
       cases (s .used && among (s .file) (s .page))

@@ -1,5 +1,6 @@
 -- What a look hands back: current bytes, from its position on.
 use mathlib.Core.Path.{_≡_, sym, ap, _∙_}
+use mathlib.Core.Logic.{_≢_}
 use mathlib.Core.List.{List, []}
 use Prim.Native.Nat.{ℕ, _+_, _-_, _/_, _%_, _≤_, _<_}
 use native.Mathlib.Nat.{le-trans}
@@ -16,20 +17,25 @@ use Rattle.media.specs.Geometry.{files, pageBytes, fileBytes, fileStart}
 use Rattle.media.proofs.Geometry.{file-end}
 use Rattle.cache.specs.Device.{Device, slotCount, framesBytes, frameStart, slotOf, logicalAt, floorAt}
 use Rattle.cache.specs.Current.{currentAt}
-use Rattle.cache.specs.Admission.{fileTests}
+use Rattle.cache.specs.Admission.{mediaShape, framesShape, sizesFit, stateTests, fileTests}
 use Rattle.cache.specs.Looking.{toPageEnd, lookCount, lookedAt, look}
-use Rattle.cache.proofs.Admission.{Admitted, first-by, file-alone, file-admitted}
+use Rattle.answer.proofs.Admission.{Changeless, first-by}
+use Rattle.cache.proofs.Admission.{Admitted, file-changeless, file-admitted}
 use Rattle.cache.proofs.Current.{current-cached, current-media, current-zero}
 use Rattle.cache.proofs.Sound.{Fit}
 
+look-changeless : (P f position : ℕ) (d : Device) → Changeless (fileTests P d f (leb position (fileBytes P)))
+unfolding mediaShape framesShape sizesFit stateTests
+look-changeless P f position d = file-changeless P d f (leb position (fileBytes P)) [] tt
+
 -- refused and empty, or done
 pub look-by : (P f position : ℕ) (d : Device) (Q : Coded → List ℕ → Type 0)
-    → ((k : ℕ) → 0 < k → k < 9 → Q (refused k) [])
+    → ((k : ℕ) → 0 < k → k ≢ 9 → Q (refused k) [])
     → (Admitted P d f (leb position (fileBytes P)) → Q (done (toPageEnd position (logicalAt d f))) (lookedAt P f position d))
     → Q (lookCount P f position d) (look P f position d)
 unfolding lookCount look
 look-by P f position d Q fails finished =
-    first-by (λ a. Q a (ifDone a (lookedAt P f position d) [])) (fileTests P d f (leb position (fileBytes P))) _ (file-alone P d f (leb position (fileBytes P)))
+    first-by (λ a. Q a (ifDone a (lookedAt P f position d) [])) (fileTests P d f (leb position (fileBytes P))) _ (look-changeless P f position d)
     (λ k lo hi. rw (ne-eqb k 0 (λ e. (omega arith))) (fails k lo hi))
     (λ e. finished (file-admitted P d f (leb position (fileBytes P)) e))
 

@@ -25,11 +25,11 @@ use Rattle.cache.specs.Admission.{Result, give, mediaShape, sizesFit}
 use Rattle.cache.specs.Plan.{writeIf}
 use Rattle.cache.specs.Mounting.{trimsFrom, nonzeroFrom, mountPlan, mount, formatPlan, format}
 use Rattle.cache.proofs.Scan.{or-left, or-right, every-at}
-use Rattle.cache.proofs.Admission.{admit-by, Mountable, shape-eight, mount-eight, mount-admitted}
+use Rattle.cache.proofs.Admission.{admit-by, Mountable, shape-changeless, mount-changeless, mount-admitted}
 use Rattle.cache.proofs.Plan.{budget-by, all-join, all-if}
 
 module _ (P : ℕ) where
-  pub zero-from : (m : Media) (f n : ℕ) → length (m .bytes) ≡ mediaBytes P → f < files → nonzeroFrom P m f n ≡ false
+  zero-from : (m : Media) (f n : ℕ) → length (m .bytes) ≡ mediaBytes P → f < files → nonzeroFrom P m f n ≡ false
       → (i : ℕ) → n ≤ i → i < fileBytes P → byteAt P m f i ≡ 0
   unfolding nonzeroFrom
   zero-from m f n lm hf e i lo hi =
@@ -180,13 +180,13 @@ module _ (P : ℕ) where
 
     -- ---- the whole list, under any budget
 
-    pub record Trimmed (c : Media) : Type 0 where
+    record Trimmed (c : Media) : Type 0 where
       pub bytes : length (c .bytes) ≡ mediaBytes P
       pub sizes : length (c .sizes) ≡ files
       pub kept : (g i : ℕ) → g < files → i < size g → i < fileBytes P → byteAt P c g i ≡ byteAt P m g i
       pub either : (g : ℕ) → g < files → (sizeAt c g ≡ sizeAt m g) ⊎ (sizeAt c g ≡ size g)
 
-    pub record AllTrimmed (c : Media) : Type 0 where
+    record AllTrimmed (c : Media) : Type 0 where
       pub clean : (g i : ℕ) → g < files → size g ≤ i → i < fileBytes P → byteAt P c g i ≡ 0
       pub sized : (g : ℕ) → g < files → sizeAt c g ≡ size g
 
@@ -194,7 +194,7 @@ module _ (P : ℕ) where
       at-first : Untouched 0 m
       at-first = record { bytes = lb; sizes = ls; byte = λ g i l hg hi. refl; size-of = λ g l hg. refl }
 
-      pub trims-cut : (k : ℕ) → Trimmed (applyAll P m (take k (trimsFrom needed size files 0)))
+      trims-cut : (k : ℕ) → Trimmed (applyAll P m (take k (trimsFrom needed size files 0)))
       trims-cut k =
           let s = sweep files 0 k m (omega arith) at-first in
           record {
@@ -204,7 +204,7 @@ module _ (P : ℕ) where
             either = s .either;
           }
 
-      pub trims-done : Trimmed (applyAll P m (trimsFrom needed size files 0)) × AllTrimmed (applyAll P m (trimsFrom needed size files 0))
+      trims-done : Trimmed (applyAll P m (trimsFrom needed size files 0)) × AllTrimmed (applyAll P m (trimsFrom needed size files 0))
       trims-done =
           let n : ℕ = length (trimsFrom needed size files 0) in
           let s = rw (take-length (trimsFrom needed size files 0)) at (sweep files 0 n m (omega arith) at-first) in (
@@ -259,13 +259,13 @@ module _ (P : ℕ) where
 
   -- a mount is refused, cut or done
   pub mount-by : (budget : ℕ) (d : Device) (Q : Result Device → Type 0)
-      → ((k : ℕ) → 0 < k → k < 9 → Q (give (refused k) d))
+      → ((k : ℕ) → 0 < k → k ≢ 9 → Q (give (refused k) d))
       → ((c : Media) → Left d c → Q (give (CUT budget) (deviceOf c (d .frames) downState)))
       → ((c : Media) (n : ℕ) → Left d c → Clean d c → Q (give (done n) (deviceOf c (d .frames) (mountedState (d .media .sizes)))))
       → Q (mount P budget d)
   unfolding mount
   mount-by budget d Q fails cut finished =
-      admit-by d Q (mediaShape P d ++ sizesFit P d) _ (mount-eight P d) fails (λ e.
+      admit-by d Q (mediaShape P d ++ sizesFit P d) _ (mount-changeless P d) fails (λ e.
       let x = mount-admitted P d e in
       budget-by P budget (mountPlan P (d .media)) (mountedState (d .media .sizes)) d Q
       (λ l. cut _ (mount-cut d x budget))
@@ -295,7 +295,7 @@ module _ (P : ℕ) where
 
   -- a format is refused with everything as it came, cut, or done; it is down in the end
   pub format-by : (budget : ℕ) (d : Device) (Q : Result Device → Type 0)
-      → ((k : ℕ) → 0 < k → k < 9 → Q (give (refused k) d))
+      → ((k : ℕ) → 0 < k → k ≢ 9 → Q (give (refused k) d))
       → (budget < length (formatPlan P (d .media))
       → Q (give (CUT budget) (deviceOf (applyAll P (d .media) (take budget (formatPlan P (d .media)))) (d .frames) downState)))
       → (length (formatPlan P (d .media)) ≤ budget
@@ -303,4 +303,4 @@ module _ (P : ℕ) where
       → Q (format P budget d)
   unfolding format
   format-by budget d Q fails cut finished =
-      admit-by d Q (mediaShape P d) _ (shape-eight P d) fails (λ e. budget-by P budget (formatPlan P (d .media)) downState d Q cut finished)
+      admit-by d Q (mediaShape P d) _ (shape-changeless P d) fails (λ e. budget-by P budget (formatPlan P (d .media)) downState d Q cut finished)

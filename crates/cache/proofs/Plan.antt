@@ -31,7 +31,7 @@ module _ (Q : MediaWrite → Type 0) where
   all-join [] vs h k = k
   all-join (w ∷ ws) vs h k = (h .0, all-join ws vs (h .1) k)
 
-  pub all-map : (R : MediaWrite → Type 0) → ((w : MediaWrite) → R w → Q w) → (ws : List MediaWrite) → All R ws → All Q ws
+  all-map : (R : MediaWrite → Type 0) → ((w : MediaWrite) → R w → Q w) → (ws : List MediaWrite) → All R ws → All Q ws
   all-map R g [] h = tt
   all-map R g (w ∷ ws) h = (g w (h .0), all-map R g ws (h .1))
 

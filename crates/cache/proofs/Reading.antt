@@ -1,4 +1,5 @@
 -- The cases of a read.
+use mathlib.Core.Logic.{_≢_}
 use mathlib.Core.List.{List}
 use Prim.Native.Nat.{ℕ, _<_}
 use lib.Dec.{leb}
@@ -14,7 +15,7 @@ use Rattle.cache.proofs.Admission.{Admitted, file-by}
 
 -- refused with the buffer as it came, or done
 pub read-by : (P f position : ℕ) (buffer : List ℕ) (d : Device) (Q : Result (List ℕ) → Type 0)
-    → ((k : ℕ) → 0 < k → k < 9 → Q (give (refused k) buffer))
+    → ((k : ℕ) → 0 < k → k ≢ 9 → Q (give (refused k) buffer))
     → (Admitted P d f (leb position (fileBytes P))
     → let n : ℕ = readCount d f position (length buffer) in Q (give (done n) (overwrite buffer 0 (currentBytes P d f position n))))
     → Q (read P f position buffer d)

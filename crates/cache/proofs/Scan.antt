@@ -74,11 +74,6 @@ module _ {A : Type 0} (t : A → Bool) where
   first-passes (x ∷ xs) d h =
       cases (t x) (λ e. rw e e) (λ e. rw e (first-passes xs d (le-of-suc-le-suc (rw e at h))))
 
-  -- none passes
-  pub first-none : (xs : List A) → ((k : ℕ) (d : A) → k < length xs → t (getD xs k d) ≡ false) → firstIndex t xs ≡ length xs
-  first-none [] h = refl
-  first-none (x ∷ xs) h = rw (h 0 x (omega arith)) (ap suc (first-none xs (λ k d l. h (suc k) d (suc-le-suc l))))
-
   -- elements are changed, but none in what the test says of it
   pub first-map : (g : A → A) (xs : List A) → ((x : A) → t (g x) ≡ t x) → firstIndex t (map g xs) ≡ firstIndex t xs
   first-map g [] e = refl

@@ -32,7 +32,7 @@ use Rattle.cache.proofs.Sound.{Fit, freed-fit}
 
 -- a sync is refused with everything as it came, cut, or done
 pub sync-by : (P f budget : ℕ) (d : Device) (Q : Result Device → Type 0)
-    → ((k : ℕ) → 0 < k → k < 9 → Q (give (refused k) d))
+    → ((k : ℕ) → 0 < k → k ≢ 9 → Q (give (refused k) d))
     → (Admitted P d f true → budget < length (syncPlan P d f)
     → Q (give (CUT budget) (deviceOf (applyAll P (d .media) (take budget (syncPlan P d f))) (d .frames) downState)))
     → (Admitted P d f true → length (syncPlan P d f) ≤ budget

@@ -23,7 +23,7 @@ use Rattle.cache.proofs.Sound.{Fit, freed-fit, sizes-fit}
 
 -- refused with everything as it came, or done
 pub truncate-by : (P f n : ℕ) (d : Device) (Q : Result Device → Type 0)
-    → ((k : ℕ) → 0 < k → k < 9 → Q (give (refused k) d))
+    → ((k : ℕ) → 0 < k → k ≢ 9 → Q (give (refused k) d))
     → (Admitted P d f (leb n (fileBytes P)) → Q (give (done 0) (truncated f n d)))
     → Q (truncate P f n d)
 unfolding truncate

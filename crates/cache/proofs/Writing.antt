@@ -24,10 +24,11 @@ use Rattle.cache.specs.Device.{Device, slotCount, framesBytes, frameStar
 use Rattle.cache.specs.Current.{frameByte, currentAt}
 use Rattle.cache.specs.Admission.{Result, give, fileTests}
 use Rattle.cache.specs.Writing.{hasSlot, blankPage, filledPage, cachePage, patchPage, putPage, Written, andMore, putPages, grown, hasRoom, write}
-use Rattle.cache.proofs.Scan.{and-left, first-set, first-set-here}
+use Rattle.cache.proofs.Scan.{first-set, first-set-here}
 use Rattle.cache.proofs.Device.{holds-one, free-holds, slots-apart, first-free-was-free, free-apart, frame-other}
 use Rattle.cache.proofs.Current.{current-cached, current-media, current-zero, current-same}
-use Rattle.cache.proofs.Admission.{Admitted, admit-by, passed-first, passed-rest, file-eight, file-admitted}
+use Rattle.cache.proofs.Admission.{Admitted, admit-by, file-changeless, file-admitted}
+use Rattle.answer.proofs.Admission.{passed-at, passed-first, passed-rest}
 use Rattle.cache.proofs.Sound.{SlotsFit, SizesFit, Fit, take-fit, logical-fit}
 
 -- ---- what page steps leave, of any device
@@ -84,7 +85,7 @@ module _ (P f : ℕ) where
       (λ e. rw e (patch-same p offset bytes d))
       (λ e. rw e (same-trans (cache-same p d) (patch-same p offset bytes (cachePage P f p d))))
 
-  pub puts-same : (n position : ℕ) (bytes : List ℕ) (d : Device) → SameBut d (putPages P f n position bytes d .device)
+  puts-same : (n position : ℕ) (bytes : List ℕ) (d : Device) → SameBut d (putPages P f n position bytes d .device)
   puts-same zero position bytes d = same-refl d
   puts-same (suc n) position [] d = same-refl d
   puts-same (suc n) position (b ∷ bs) d =
@@ -101,7 +102,7 @@ module _ (P f : ℕ) where
 
 -- refused with everything as it came, or done with what the pages took
 pub write-by : (P f position : ℕ) (bytes : List ℕ) (d : Device) (Q : Result Device → Type 0)
-    → ((k : ℕ) → 0 < k → k < 9 → Q (give (refused k) d))
+    → ((k : ℕ) → 0 < k → k ≢ 9 → Q (give (refused k) d))
     → (Admitted P d f (leb (position + length bytes) (fileBytes P)) → hasRoom d f position bytes ≡ true
     → let w : Written = putPages P f P position bytes d in Q (give (done (w .count)) (grown f position w)))
     → Q (write P f position bytes d)
@@ -109,9 +110,9 @@ unfolding write
 write-by P f position bytes d Q fails finished =
     let range : Bool = leb (position + length bytes) (fileBytes P) in
     let room : List Test = test (hasRoom d f position bytes) NO-ROOM ∷ [] in
-    admit-by d Q (fileTests P d f range ++ room) _ (file-eight P d f range room ((8, omega arith, omega arith, refl), tt)) fails (λ e.
+    admit-by d Q (fileTests P d f range ++ room) _ (file-changeless P d f range room ((8, omega arith, λ e. (omega arith), refl), tt)) fails (λ e.
     finished (file-admitted P d f range (passed-first (fileTests P d f range) room e))
-    (and-left (hasRoom d f position bytes) true (passed-rest (fileTests P d f range) room e)))
+    (passed-at room (passed-rest (fileTests P d f range) room e) 0))
 
 -- a write leaves the media
 pub write-media : (P f position : ℕ) (bytes : List ℕ) (d : Device) → write P f position bytes d .left .media ≡ d .media
@@ -162,7 +163,7 @@ module _ (P : ℕ) where
         length-part (d .media .bytes) (pageStart P f p) (min pageBytes (floorAt d f - pageBytes * p))
         (omega (arith, file-end P f hf, page-end P p hp, x .bytes))
 
-    pub length-filled : length (filledPage P d f p) ≡ pageBytes
+    length-filled : length (filledPage P d f p) ≡ pageBytes
     unfolding filledPage
     length-filled = rw length-overwrite length-blank
 
@@ -186,13 +187,13 @@ module _ (P : ℕ) where
       free : isFree (getD (d .cache .slots) (firstFree d) freeSlot) ≡ true
       free = first-free-was-free d (omega (arith, x .slots .count))
 
-      pub cached-slot : slotOf (cachePage P f p d) f p ≡ firstFree d
+      cached-slot : slotOf (cachePage P f p d) f p ≡ firstFree d
       unfolding cachePage
       cached-slot =
           first-set-here (holds f p) (d .cache .slots) (firstFree d) (record { used = true; file = f; page = p })
           (rw (eq-eqb f f refl, eq-eqb p p refl)) (omega (arith, x .slots .count)) (omega (arith, x .slots .count))
 
-      pub cached-framed : Framed (cachePage P f p d)
+      cached-framed : Framed (cachePage P f p d)
       unfolding cachePage
       cached-framed = record {
         bytes = x .bytes;
@@ -262,7 +263,7 @@ module _ (P : ℕ) where
         (omega arith) (omega arith) (omega arith))
         refl refl
 
-    pub patch-puts : Puts f (pageBytes * p + offset) (length bytes) bytes d (patchPage f p offset bytes d)
+    patch-puts : Puts f (pageBytes * p + offset) (length bytes) bytes d (patchPage f p offset bytes d)
     unfolding patchPage
     patch-puts =
         let a : ℕ = frameStart (slotOf d f p) + offset in

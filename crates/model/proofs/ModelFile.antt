@@ -110,7 +110,7 @@ length-replay boundary file (truncated n ∷ log) =
     (λ h. rw (le-ltb n (length file) h) (omega arith)))
 
 -- every entry left out
-pub none-becomes : (file : List ℕ) (log : List Entry) → Becomes file log file
+none-becomes : (file : List ℕ) (log : List Entry) → Becomes file log file
 none-becomes file [] = refl
 none-becomes file (written n bytes ∷ log) = (0, omega arith, none-becomes file log)
 none-becomes file (truncated n ∷ log) = inr (none-becomes file log)
@@ -122,7 +122,7 @@ take-within k bytes =
     (λ l. let e : min k (length bytes) ≡ length bytes = omega arith in rw (e, take-all k bytes l, take-length bytes))
 
 -- a replay is one of the things that a log may do
-pub replay-becomes : (boundary : ℕ) (file : List ℕ) (log : List Entry) → Becomes file log (replay boundary file log)
+replay-becomes : (boundary : ℕ) (file : List ℕ) (log : List Entry) → Becomes file log (replay boundary file log)
 replay-becomes boundary file [] = refl
 replay-becomes boundary file (written n bytes ∷ log) =
     let k : ℕ = min boundary (length file) - n in (
