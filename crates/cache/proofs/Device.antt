@@ -1,5 +1,5 @@
 -- Laws of slots and page frames.
-use mathlib.Core.Path.{_≡_, sym, _∙_, subst}
+use mathlib.Core.Path.{_≡_, refl, sym, _∙_, subst}
 use mathlib.Core.Logic.{_≢_}
 use mathlib.Core.Bool.{Bool, true, false, _&&_}
 use mathlib.Core.List.{List, map}
@@ -95,3 +95,13 @@ pub frame-other : (frames bytes : List ℕ) (k j a r : ℕ) → j ≢ k → fram
     → getD (overwrite frames a bytes) (frameStart j + r) 0 ≡ getD frames (frameStart j + r) 0
 frame-other frames bytes k j a r ne lo hi hr =
     split-lt j k (λ l. overwrite-before frames a bytes _ (omega arith)) (λ l. overwrite-after frames a bytes _ (omega arith))
+
+-- ---- what a call keeps
+
+pub record Kept (d c : Device) : Type 0 where
+  pub media : c .media ≡ d .media
+  pub frames : length (c .frames) ≡ length (d .frames)
+  pub mounted : c .cache .mounted ≡ d .cache .mounted
+
+pub kept-all : (d : Device) → Kept d d
+kept-all d = record { media = refl; frames = refl; mounted = refl }

@@ -6,17 +6,18 @@ use native.Mathlib.Omega.{arith}
 use lib.Dec.{leb}
 use lib.ListN.{length, getD, length-map, length-replicate}
 use lib.Seq.{getD-set-same, getD-set-other}
+use borrow.Table.Steps.{cases}
 use borrow.Author.Tests.{eq-eqb, ne-eqb, lt-ltb, le-ltb, le-leb, lt-leb}
 use Rattle.answer.specs.Coded.{refused, done}
 use Rattle.memory.specs.Bytes.{zeros, overwrite}
 use Rattle.memory.proofs.Cases.{split-lt, split-eq}
 use Rattle.memory.proofs.Bytes.{getD-zeros, length-overwrite, overwrite-before, overwrite-in}
 use Rattle.media.specs.Geometry.{files, pageBytes, fileBytes}
-use Rattle.cache.specs.Device.{Device, slotCount, framesBytes, frameStart, slotOf, freeWhere, logicalAt, floorAt}
+use Rattle.cache.specs.Device.{Device, slotCount, framesBytes, frameStart, slotOf, isCached, freeWhere, logicalAt, floorAt}
 use Rattle.cache.specs.Current.{frameByte, currentAt}
 use Rattle.cache.specs.Admission.{Result, give}
 use Rattle.cache.specs.Truncating.{pagesFrom, clearTail, withSizes, truncated, truncate}
-use Rattle.cache.proofs.Device.{slot-gone, slot-stays, slots-apart, frame-other}
+use Rattle.cache.proofs.Device.{slot-gone, slot-stays, slots-apart, frame-other, Kept, kept-all}
 use Rattle.cache.proofs.Current.{current-cached, current-zero, current-like}
 use Rattle.cache.proofs.Admission.{Admitted, file-by}
 use Rattle.cache.proofs.Sound.{Fit, freed-fit, sizes-fit}
@@ -29,24 +30,24 @@ pub truncate-by : (P f n : ℕ) (d : Device) (Q : Result Device → Type 0)
 unfolding truncate
 truncate-by P f n d Q fails finished = file-by P d Q f (leb n (fileBytes P)) d _ fails finished
 
--- a truncate leaves the media
-pub truncate-media : (P f n : ℕ) (d : Device) → truncate P f n d .left .media ≡ d .media
-unfolding truncated clearTail
-truncate-media P f n d = truncate-by P f n d (λ r. r .left .media ≡ d .media) (λ k lo hi. refl) (λ ad. refl)
+-- a truncate keeps the media, the length of the frames, and the mount
+pub truncate-kept : (P f n : ℕ) (d : Device) → Kept d (truncate P f n d .left)
+unfolding truncated clearTail withSizes
+truncate-kept P f n d =
+    truncate-by P f n d (λ r. Kept d (r .left))
+    (λ k lo hi. kept-all d)
+    (λ ad. record {
+      media = refl;
+      frames = cases (isCached (truncated f n d) f (n / pageBytes)) (λ e. rw (e, length-overwrite)) (λ e. rw e);
+      mounted = refl;
+    })
 
 module _ (P : ℕ) (d : Device) (x : Fit P d) (frames : length (d .frames) ≡ framesBytes) (f n : ℕ) (hf : f < files) where
   -- the device after it
   abbrev c : Device
   c = truncated f n d
 
-  -- ---- lengths and sizes
-
-  pub truncated-frames : length (truncated f n d .frames) ≡ framesBytes
-  unfolding truncated clearTail
-  truncated-frames =
-      split-lt (slotOf c f (n / pageBytes)) slotCount
-      (λ l. rw (lt-ltb _ _ l, length-overwrite) frames)
-      (λ l. rw (le-ltb _ _ l) frames)
+  -- ---- sizes
 
   pub truncated-logical : logicalAt (truncated f n d) f ≡ n
   unfolding truncated clearTail withSizes
@@ -75,10 +76,6 @@ module _ (P : ℕ) (d : Device) (x : Fit P d) (frames : length (d .frames) ≡ f
   pub truncated-media : truncated f n d .media ≡ d .media
   unfolding truncated clearTail
   truncated-media = refl
-
-  pub truncated-mounted : truncated f n d .cache .mounted ≡ d .cache .mounted
-  unfolding truncated clearTail withSizes
-  truncated-mounted = refl
 
   -- ---- slots
 

@@ -25,7 +25,7 @@ use Rattle.cache.specs.Current.{frameByte, currentAt}
 use Rattle.cache.specs.Admission.{Result, give, fileTests}
 use Rattle.cache.specs.Writing.{hasSlot, blankPage, filledPage, cachePage, patchPage, putPage, Written, andMore, putPages, grown, hasRoom, write}
 use Rattle.cache.proofs.Scan.{first-set, first-set-here}
-use Rattle.cache.proofs.Device.{holds-one, free-holds, slots-apart, first-free-was-free, free-apart, frame-other}
+use Rattle.cache.proofs.Device.{holds-one, free-holds, slots-apart, first-free-was-free, free-apart, frame-other, Kept, kept-all}
 use Rattle.cache.proofs.Current.{current-cached, current-media, current-zero, current-same}
 use Rattle.cache.proofs.Admission.{Admitted, admit-by, file-changeless, file-admitted}
 use Rattle.answer.proofs.Admission.{passed-at, passed-first, passed-rest}
@@ -114,14 +114,18 @@ write-by P f position bytes d Q fails finished =
     finished (file-admitted P d f range (passed-first (fileTests P d f range) room e))
     (passed-at room (passed-rest (fileTests P d f range) room e) 0))
 
--- a write leaves the media
-pub write-media : (P f position : ℕ) (bytes : List ℕ) (d : Device) → write P f position bytes d .left .media ≡ d .media
+-- a write keeps the media, the length of the frames, and the mount
+pub write-kept : (P f position : ℕ) (bytes : List ℕ) (d : Device) → Kept d (write P f position bytes d .left)
 unfolding grown
-write-media P f position bytes d =
-    let same : putPages P f P position bytes d .device .media ≡ d .media = puts-same P f P position bytes d .media in
-    write-by P f position bytes d (λ r. r .left .media ≡ d .media)
-    (λ k lo hi. refl)
-    (λ ad room. cases (eqb (putPages P f P position bytes d .count) 0) (λ z. rw z same) (λ z. rw z same))
+write-kept P f position bytes d =
+    let s = puts-same P f P position bytes d in
+    let same : Kept d (putPages P f P position bytes d .device) = record { media = s .media; frames = s .frames; mounted = s .mounted } in
+    write-by P f position bytes d (λ r. Kept d (r .left))
+    (λ k lo hi. kept-all d)
+    (λ ad room.
+    cases (eqb (putPages P f P position bytes d .count) 0)
+    (λ z. rw z same)
+    (λ z. rw z (record { media = s .media; frames = s .frames; mounted = s .mounted })))
 
 module _ (P : ℕ) where
   -- what a page step needs of a device

@@ -1,4 +1,4 @@
--- Demands 2 and 3, and the closed form behind demand 3, of this store.
+-- The demands of this store. Demand 1 is proved in proofs/Refusals.
 use mathlib.Core.Path.{refl, sym, _∙_}
 use Prim.Native.Nat.{ℕ}
 use lib.Dec.{eqb}
@@ -6,22 +6,24 @@ use Rattle.media.specs.Geometry.{pagesPerFile}
 use borrow.Table.Steps.{cases}
 use Rattle.answer.specs.Coded.{Coded}
 use Rattle.answer.specs.Admission.{ifDone}
-use Rattle.model.specs.Run.{World, Event, step}
+use Rattle.cache.specs.Device.{Device}
+use Rattle.model.specs.ModelFile.{Becomes}
+use Rattle.model.specs.Run.{IsDone, World, Event, step, start, InEveryRun, AtMounts}
 use Rattle.model.specs.Run.Call.{read, look, write, truncate, sync, mount}
 use Rattle.model.specs.Run.Event.{call, powerLost}
-use Rattle.model.specs.Claims.{Demand1, Served, Demand2, Explained, Demand3}
-use Rattle.model.specs.States.{FindsState, ClosedForm}
+use Rattle.model.specs.Claims.{Demand1, Served, Demand2, Demand3}
+use Rattle.model.specs.States.{CrashState, ClosedForm}
 use Rattle.model.specs.Store.{store, storeDoes, storeMedia}
 use Rattle.model.specs.Floor.{FloorIsSmallest, Floor}
 use Rattle.model.proofs.ModelFile.{length-replay, state-becomes}
 use Rattle.model.proofs.Refusals.{demand-1}
-use Rattle.model.proofs.Run.{throughout, weaker}
+use Rattle.model.proofs.Run.{in-every-run, weaker-runs}
 use Rattle.model.proofs.Invariant.{Invariant, same-found}
 use Rattle.model.proofs.Writes.{keeps-write}
 use Rattle.model.proofs.Truncates.{keeps-truncate}
 use Rattle.model.proofs.Syncs.{zero-not-one, keeps-sync}
 use Rattle.model.proofs.Mounts.{keeps-mount, starts, finds}
-use Rattle.model.proofs.Posix.{read-accepted, look-accepted, write-accepted, truncate-accepted, sync-accepted, mount-accepted, read-posix, look-posix, write-posix, truncate-posix, sync-posix, write-mounted, truncate-mounted, sync-mounted, mount-mounted}
+use Rattle.model.proofs.Posix.{read-succeeds, look-succeeds, write-succeeds, truncate-succeeds, sync-succeeds, mount-succeeds, read-posix, look-posix, write-posix, truncate-posix, sync-posix, mount-posix}
 
 module _ (P : ℕ) where
   abbrev Holds : World (store P) → Type 0
@@ -45,37 +47,37 @@ module _ (P : ℕ) where
     mounted = λ e. absurd (zero-not-one e);
   }
 
+  start-holds : (d : Device) (budget : ℕ) → IsDone (store P .does (mount budget) d .answer) → Holds (start (store P) (store P .does (mount budget) d .device))
+  start-holds d budget is = starts P d budget is
+
+  -- what holds at every event where the invariant does
+  everywhere : (Q : World (store P) → Event (store P) → Type 0) → ((w : World (store P)) (e : Event (store P)) → Holds w → Q w e) → InEveryRun (store P) Q
+  everywhere Q at = in-every-run (store P) Holds start-holds keeps Q at
+
   served : (w : World (store P)) (e : Event (store P)) → Holds w → Served (store P) w e
-  served w (call (read f position buffer)) inv = (
-    λ h. read-accepted P (w .device) (w .files) inv (h .0) (h .1) f (h .2) position buffer (h .3),
-    refl,
-    read-posix P (w .device) (w .files) inv f position buffer,
-  )
-  served w (call (look f position)) inv = (
-    λ h. look-accepted P (w .device) (w .files) inv (h .0) (h .1) f (h .2) position (h .3),
-    refl,
-    look-posix P (w .device) (w .files) inv f position,
-  )
+  served w (call (read f position buffer)) inv =
+      let r = read-posix P (w .device) (w .files) inv f position buffer in
+      (λ h. read-succeeds P (w .device) (w .files) inv (h .0 .0) (h .0 .1) f (h .0 .2) position buffer (h .1), (refl, r .0, r .1))
+  served w (call (look f position)) inv =
+      let r = look-posix P (w .device) (w .files) inv f position in
+      (λ h. look-succeeds P (w .device) (w .files) inv (h .0 .0) (h .0 .1) f (h .0 .2) position (h .1), (refl, r .0, r .1))
   served w (call (write f position bytes)) inv = (
-    λ h. write-accepted P (w .device) (w .files) inv (h .0) (h .1) f (h .2) position bytes (h .3),
-    write-mounted P (w .device) (w .files) inv f position bytes,
+    λ h. write-succeeds P (w .device) (w .files) inv (h .0 .0) (h .0 .1) f (h .0 .2) position bytes (h .1),
     write-posix P (w .device) (w .files) inv f position bytes,
   )
   served w (call (truncate f n)) inv = (
-    λ h. truncate-accepted P (w .device) (w .files) inv (h .0) (h .1) f (h .2) n (h .3),
-    truncate-mounted P (w .device) (w .files) inv f n,
+    λ h. truncate-succeeds P (w .device) (w .files) inv (h .0 .0) (h .0 .1) f (h .0 .2) n (h .1),
     truncate-posix P (w .device) (w .files) inv f n,
   )
   served w (call (sync f budget)) inv = (
-    λ h. sync-accepted P (w .device) (w .files) inv (h .0) (h .1) f (h .2) budget,
-    sync-mounted P (w .device) (w .files) inv f budget,
+    λ h. sync-succeeds P (w .device) (w .files) inv (h .0) (h .1) f (h .2) budget,
     sync-posix P (w .device) (w .files) inv f budget,
   )
   served w (call (mount budget)) inv =
-      (λ h. mount-accepted P (w .device) (w .files) inv budget, mount-mounted P (w .device) (w .files) inv budget, tt)
+      (λ h. mount-succeeds P (w .device) (w .files) inv budget, mount-posix P (w .device) (w .files) inv budget)
   served w (powerLost frames) inv = tt
 
-  finds-state : (w : World (store P)) (e : Event (store P)) → Holds w → FindsState (store P) w e
+  finds-state : (w : World (store P)) (e : Event (store P)) → Holds w → AtMounts (store P) CrashState w e
   finds-state w (call (read f position buffer)) inv = tt
   finds-state w (call (look f position)) inv = tt
   finds-state w (call (write f position bytes)) inv = tt
@@ -84,33 +86,23 @@ module _ (P : ℕ) where
   finds-state w (call (mount budget)) inv = finds P (w .device) budget (w .files) inv
   finds-state w (powerLost frames) inv = tt
 
-  explained : (w : World (store P)) (e : Event (store P)) → FindsState (store P) w e → Explained (store P) w e
-  explained w (call (read f position buffer)) s = tt
-  explained w (call (look f position)) s = tt
-  explained w (call (write f position bytes)) s = tt
-  explained w (call (truncate f n)) s = tt
-  explained w (call (sync f budget)) s = tt
-  explained w (call (mount budget)) s = λ z f hf. state-becomes (w .files f) _ (s z f hf)
-  explained w (powerLost frames) s = tt
-
-  -- ---- the claims, over the number of pages in a file
-
-  pub demand-2 : Demand2 (store P)
-  demand-2 d budget is es = throughout (store P) Holds keeps (Served (store P)) served _ es (starts P d budget is)
-
-  pub closed-form : ClosedForm (store P)
-  closed-form d budget is es = throughout (store P) Holds keeps (FindsState (store P)) finds-state _ es (starts P d budget is)
-
-  pub demand-3 : Demand3 (store P)
-  demand-3 d budget is es =
-      weaker (store P) (FindsState (store P)) (Explained (store P)) explained _ es (closed-form d budget is es)
-
   floor-smallest : (w : World (store P)) (e : Event (store P)) → Holds w → FloorIsSmallest P w e
   floor-smallest w e inv up f hf =
       sym (inv .mounted up f hf .mixed 0 .size-is) ∙ length-replay 0 (w .files f .durable) (w .files f .log)
 
+  -- ---- the claims, over the number of pages in a file
+
+  pub demand-2 : Demand2 (store P)
+  demand-2 = everywhere (Served (store P)) served
+
+  pub closed-form : ClosedForm (store P)
+  closed-form = everywhere (AtMounts (store P) CrashState) finds-state
+
+  pub demand-3 : Demand3 (store P)
+  demand-3 = weaker-runs (store P) CrashState (λ m found. Becomes (m .durable) (m .log) found) state-becomes closed-form
+
   pub floor : Floor P
-  floor d budget is es = throughout (store P) Holds keeps (FloorIsSmallest P) floor-smallest _ es (starts P d budget is)
+  floor = everywhere (FloorIsSmallest P) floor-smallest
 
 -- at document 01's sixteen pages
 pub this-store : Demand1 (store pagesPerFile) × Demand2 (store pagesPerFile) × Demand3 (store pagesPerFile)

@@ -18,7 +18,7 @@ use Rattle.cache.proofs.Sound.{Fit}
 use Rattle.cache.proofs.Admission.{Mountable}
 use Rattle.model.specs.ModelFile.{ModelFile}
 use Rattle.model.specs.Run.{Files, change}
-use Rattle.model.specs.States.{replay, State}
+use Rattle.model.specs.States.{replay, CrashState}
 use Rattle.model.specs.Store.{storeMedia}
 
 -- file f is changed, the others stay
@@ -33,7 +33,7 @@ module _ (P : ℕ) where
   -- what a mount would find is one of the file's states
   pub record Found (d : Device) (g : ℕ) (m : ModelFile) : Type 0 where
     pub file : List ℕ
-    pub state : State m file
+    pub state : CrashState m file
     pub size-is : length file ≡ sizeAt (d .media) g
     pub byte-is : (i : ℕ) → i < sizeAt (d .media) g → i < fileBytes P → getD file i 0 ≡ byteAt P (d .media) g i
 
@@ -120,6 +120,6 @@ module _ (P : ℕ) where
         ext-getD 0 file (storeMedia P d g) (e ∙ sym on-media-size) (λ i l.
         let l′ : i < sizeAt (d .media) g = rw e at l in h i l′ ∙ sym (on-media-byte i l′))
 
-    pub found-state : (m : ModelFile) → Found d g m → State m (storeMedia P d g)
+    pub found-state : (m : ModelFile) → Found d g m → CrashState m (storeMedia P d g)
     found-state m x =
-        subst (State m) (on-media-is (x .file) (x .size-is) (λ i l. x .byte-is i l (omega arith))) (x .state)
+        subst (CrashState m) (on-media-is (x .file) (x .size-is) (λ i l. x .byte-is i l (omega arith))) (x .state)

@@ -12,7 +12,7 @@ use Rattle.memory.proofs.Cases.{split-lt, split-eq}
 use Rattle.media.specs.Geometry.{pageBytes}
 use Rattle.model.specs.ModelFile.{Entry, ModelFile, lay, posixWrite, posixTruncate, Becomes, afterWrite}
 use Rattle.model.specs.ModelFile.Entry.{written, truncated}
-use Rattle.model.specs.States.{redo, replay, State}
+use Rattle.model.specs.States.{redo, replay, CrashState}
 use Rattle.model.specs.Floor.{smallest}
 
 -- ---- truncate
@@ -135,6 +135,6 @@ replay-becomes boundary file (truncated n ∷ log) =
     (λ h. rw (lt-ltb n (length file) h) (inl (replay-becomes boundary (posixTruncate file n) log)))
     (λ h. rw (le-ltb n (length file) h) (inr (replay-becomes boundary file log)))
 
-pub state-becomes : (m : ModelFile) (found : List ℕ) → State m found → Becomes (m .durable) (m .log) found
+pub state-becomes : (m : ModelFile) (found : List ℕ) → CrashState m found → Becomes (m .durable) (m .log) found
 state-becomes m found (inl e) = rw e (none-becomes (m .durable) (m .log))
 state-becomes m found (inr (q, e)) = rw e (replay-becomes (pageBytes * q) (m .durable) (m .log))

@@ -8,7 +8,7 @@ use lib.ListN.{length, getD, List·getD-eq-default}
 use borrow.Author.Tests.{ne-eqb}
 use Rattle.memory.proofs.Cases.{split-lt}
 use Rattle.media.specs.Geometry.{files, pageBytes, fileBytes}
-use Rattle.media.specs.Write.{Media, byteAt, sizeAt}
+use Rattle.media.specs.Write.{Media, byteAt, sizeAt, applyAll}
 use Rattle.cache.specs.Device.{Device, deviceOf, slotCount, slotOf, downState, mountedState}
 use Rattle.cache.specs.Current.{currentAt}
 use Rattle.cache.specs.Admission.{Result}
@@ -18,10 +18,9 @@ use Rattle.cache.proofs.Sound.{Fit, none-fit}
 use Rattle.cache.proofs.Admission.{Mountable}
 use Rattle.cache.proofs.Mounting.{Left, Clean, mount-by}
 use Rattle.model.specs.ModelFile.{ModelFile, fresh}
-use Rattle.model.specs.Run.{Files, feed}
+use Rattle.model.specs.Run.{IsDone, Files, feed}
 use Rattle.model.specs.Run.Call.{mount}
-use Rattle.model.specs.Claims.{IsDone}
-use Rattle.model.specs.States.{State}
+use Rattle.model.specs.States.{CrashState}
 use Rattle.model.specs.Store.{storeMedia}
 use Rattle.model.proofs.Invariant.{Found, Invariant, on-media-size, on-media-byte, found-state}
 use Rattle.model.proofs.Syncs.{zero-not-one}
@@ -134,24 +133,25 @@ module _ (P : ℕ) (d : Device) (budget : ℕ) where
   keeps-mount fs inv =
       mount-by P budget d (λ r. Invariant P (r .left) (feed (mount budget) (r .answer) (storeMedia P (r .left)) fs))
       (λ k lo hi. rw (ne-eqb k 0 (λ e. (omega arith))) inv)
-      (λ m l. cut-keeps P d m l fs inv)
-      (λ m n l z. done-keeps P d m l z)
+      (λ l. cut-keeps P d _ l fs inv)
+      (λ l z. done-keeps P d _ l z)
 
   -- the mount before the list
   pub starts : IsDone (Mounting.mount P budget d .answer) → Invariant P (Mounting.mount P budget d .left) (λ f. fresh (storeMedia P (Mounting.mount P budget d .left) f))
   starts =
       mount-by P budget d (λ r. IsDone (r .answer) → Invariant P (r .left) (λ f. fresh (storeMedia P (r .left) f)))
       (λ k lo hi z. absurd (omega arith))
-      (λ m l z. absurd (omega arith))
-      (λ m n l z q. done-keeps P d m l z)
+      (λ l z. absurd (omega arith))
+      (λ l z q. done-keeps P d _ l z)
 
   -- what a mount in the list finds
-  pub finds : (fs : Files) → Invariant P d fs → IsDone (Mounting.mount P budget d .answer) → (f : ℕ) → f < files → State (fs f) (storeMedia P (Mounting.mount P budget d .left) f)
+  pub finds : (fs : Files) → Invariant P d fs → IsDone (Mounting.mount P budget d .answer) → (f : ℕ) → f < files → CrashState (fs f) (storeMedia P (Mounting.mount P budget d .left) f)
   finds fs inv is f hf =
-      mount-by P budget d (λ r. IsDone (r .answer) → State (fs f) (storeMedia P (r .left) f))
+      mount-by P budget d (λ r. IsDone (r .answer) → CrashState (fs f) (storeMedia P (r .left) f))
       (λ k lo hi z. absurd (omega arith))
-      (λ m l z. absurd (omega arith))
-      (λ m n l z q.
+      (λ l z. absurd (omega arith))
+      (λ l z q.
+      let m : Media = applyAll P (d .media) (Mounting.mountPlan P (d .media)) in
       found-state P (deviceOf m (d .frames) (mountedState (d .media .sizes))) f (l .bytes) hf (size-fits P d m l f hf) (fs f)
       (left-found P d m l (deviceOf m (d .frames) (mountedState (d .media .sizes))) refl f (fs f) hf (inv .found f hf)))
       is

@@ -1,18 +1,18 @@
 -- What each call gives where the invariant holds.
 use mathlib.Core.Path.{_≡_, refl, sym, ap, _∙_}
 use mathlib.Core.Logic.{_⊎_, inl, inr}
-use mathlib.Core.Bool.{Bool, true, false, cond}
+use mathlib.Core.Bool.{Bool, true}
 use mathlib.Core.List.{List, [], _∷_, _++_}
 use Prim.Native.Nat.{ℕ, _+_, _-_, _%_, _≤_, _<_, min}
 use native.Mathlib.Omega.{arith}
 use lib.Dec.{eqb, leb}
-use lib.ListN.{length, getD, drop, length-replicate}
-use lib.Seq.{ext-getD}
+use lib.ListN.{length, getD, drop, length-append, length-replicate, List·getD-append}
+use lib.Seq.{ext-getD, getD-append-add}
 use borrow.Author.Tests.{eqb-true, leb-true, ne-eqb, le-leb}
 use Rattle.answer.specs.Coded.{Coded, done, CUT, NO-ROOM}
 use Rattle.answer.specs.Admission.{Test, test, firstRefusal, ifDone}
 use Rattle.memory.specs.Bytes.{zeros, part, overwrite}
-use Rattle.memory.proofs.Cases.{split-eq}
+use Rattle.memory.proofs.Cases.{split-lt, split-eq}
 use Rattle.memory.proofs.Bytes.{getD-zeros, length-part, getD-part}
 use Rattle.media.specs.Geometry.{files, pageBytes, fileBytes}
 use Rattle.cache.specs.Device.{Device, framesBytes, logicalAt}
@@ -26,68 +26,68 @@ use Rattle.cache.specs.Mounting.{mountPlan, mount}
 use Rattle.cache.specs.Looking.{toPageEnd, lookCount, lookedAt, look}
 use Rattle.cache.proofs.Current.{length-current, current-at}
 use Rattle.cache.proofs.Sound.{Fit}
-use Rattle.cache.proofs.Admission.{passed, admit-answer, first-all, first-after, file-passes, mount-passes}
+use Rattle.answer.proofs.Admission.{passed, first-all, first-join}
+use Rattle.cache.proofs.Admission.{admit-answer, file-passes, mount-passes}
 use Rattle.cache.proofs.Reading.{read-by}
-use Rattle.cache.proofs.Writing.{write-by, write-leaves, write-stops, write-some, grown-room}
+use Rattle.cache.proofs.Writing.{write-by, write-stops, write-some, grown-room}
 use Rattle.cache.proofs.Plan.{budget-answer}
 use Rattle.cache.proofs.Syncing.{sync-by, syncedDevice, sync-done, synced-fit}
-use Rattle.cache.proofs.Truncating.{truncate-by, truncated-mounted}
+use Rattle.cache.proofs.Truncating.{truncate-by}
 use Rattle.cache.proofs.Mounting.{mount-by}
 use Rattle.cache.proofs.Looking.{look-by, looked-most, looked-current, looked-rest}
-use Rattle.model.specs.Run.{Files}
-use Rattle.model.specs.Claims.{IsDone}
+use Rattle.model.specs.Run.{IsDone, Files}
 use Rattle.model.specs.Store.{storeMedia}
 use Rattle.model.proofs.Invariant.{Mounted, Invariant, on-media-is}
 use Rattle.model.proofs.Syncs.{ready}
 
 module _ (P : ℕ) (d : Device) (fs : Files) (inv : Invariant P d fs) where
-  -- ---- calls that are accepted
+  -- ---- calls that succeed
 
   module _ (mounted : eqb (d .cache .mounted) 1 ≡ true) (shaped : eqb (length (d .frames)) framesBytes ≡ true) (f : ℕ) (hf : f < files) where
     passes : (range : Bool) → range ≡ true → passed (fileTests P d f range) ≡ true
     passes range h = let up = eqb-true _ _ mounted in file-passes P d f range (inv .fit up) up (eqb-true _ _ shaped) hf h
 
-    pub read-accepted : (position : ℕ) (buffer : List ℕ) → position ≤ fileBytes P → (n : ℕ) × (read P f position buffer d .answer ≡ done n)
+    pub read-succeeds : (position : ℕ) (buffer : List ℕ) → position ≤ fileBytes P → (n : ℕ) × (read P f position buffer d .answer ≡ done n)
     unfolding read
-    read-accepted position buffer h = (
+    read-succeeds position buffer h = (
       _,
       admit-answer buffer (fileTests P d f (leb position (fileBytes P))) _
           ∙ first-all (fileTests P d f (leb position (fileBytes P))) _ (passes _ (le-leb _ _ h)),
     )
 
-    pub look-accepted : (position : ℕ) → position ≤ fileBytes P → (n : ℕ) × (lookCount P f position d ≡ done n)
+    pub look-succeeds : (position : ℕ) → position ≤ fileBytes P → (n : ℕ) × (lookCount P f position d ≡ done n)
     unfolding lookCount
-    look-accepted position h = (_, first-all (fileTests P d f (leb position (fileBytes P))) _ (passes _ (le-leb _ _ h)))
+    look-succeeds position h = (_, first-all (fileTests P d f (leb position (fileBytes P))) _ (passes _ (le-leb _ _ h)))
 
-    pub write-accepted : (position : ℕ) (bytes : List ℕ) → position + length bytes ≤ fileBytes P
+    pub write-succeeds : (position : ℕ) (bytes : List ℕ) → position + length bytes ≤ fileBytes P
         → (n : ℕ) × (write P f position bytes d .answer ≡ firstRefusal (test (hasRoom d f position bytes) NO-ROOM ∷ []) (done n))
     unfolding write
-    write-accepted position bytes h =
+    write-succeeds position bytes h =
         let ts : List Test = fileTests P d f (leb (position + length bytes) (fileBytes P)) in
         let us : List Test = test (hasRoom d f position bytes) NO-ROOM ∷ [] in
-        (_, admit-answer d (ts ++ us) _ ∙ first-after ts us _ (passes _ (le-leb _ _ h)))
+        (_, admit-answer d (ts ++ us) _ ∙ first-join ts us _ ∙ first-all ts _ (passes _ (le-leb _ _ h)))
 
-    pub truncate-accepted : (n : ℕ) → n ≤ fileBytes P → (k : ℕ) × (truncate P f n d .answer ≡ done k)
+    pub truncate-succeeds : (n : ℕ) → n ≤ fileBytes P → (k : ℕ) × (truncate P f n d .answer ≡ done k)
     unfolding truncate
-    truncate-accepted n h = (
+    truncate-succeeds n h = (
       _,
       admit-answer d (fileTests P d f (leb n (fileBytes P))) _ ∙ first-all (fileTests P d f (leb n (fileBytes P))) _ (passes _ (le-leb _ _ h)),
     )
 
-    pub sync-accepted : (budget : ℕ)
+    pub sync-succeeds : (budget : ℕ)
         → (n : ℕ) × (sync P f budget d .answer ≡ firstRefusal (test (leb (length (syncPlan P d f)) budget) (CUT budget) ∷ []) (done n))
     unfolding sync
-    sync-accepted budget = (
+    sync-succeeds budget = (
       _,
       admit-answer d (fileTests P d f true) _
           ∙ first-all (fileTests P d f true) _ (passes true refl)
           ∙ budget-answer P budget (syncPlan P d f) (syncedState d f) d,
     )
 
-  pub mount-accepted : (budget : ℕ)
+  pub mount-succeeds : (budget : ℕ)
       → (n : ℕ) × (mount P budget d .answer ≡ firstRefusal (test (leb (length (mountPlan P (d .media))) budget) (CUT budget) ∷ []) (done n))
   unfolding mount
-  mount-accepted budget = (
+  mount-succeeds budget = (
     _,
     admit-answer d (mediaShape P d ++ sizesFit P d) _
         ∙ first-all (mediaShape P d ++ sizesFit P d) _ (mount-passes P d (inv .mountable))
@@ -129,47 +129,38 @@ module _ (P : ℕ) (d : Device) (fs : Files) (inv : Invariant P d fs) where
         ∙ sym (byte-is (position + i) (omega (arith, fits)))
         ∙ sym (getD-part file position n i l′)))
 
-    -- what a look hands back is a part of it too
-    looked-part : (position : ℕ) → lookedAt P f position d ≡ part file position (length (lookedAt P f position d))
-    looked-part position =
-        let n : ℕ = length (lookedAt P f position d) in
-        let most : n ≤ toPageEnd position (logicalAt d f) = looked-most P d f position (inv .fit up .sizes .floor-logical f hf) in
-        let short : n ≤ logicalAt d f - position = omega arith in
-        split-eq n 0
-        (λ e. rw e (none (lookedAt P f position d) e))
+    -- what a look hands back, and zeros after it, are a part of it too
+    looked-part : length (d .frames) ≡ framesBytes → (position : ℕ) →
+        let m : ℕ = toPageEnd position (logicalAt d f) in
+        part file position m ≡ lookedAt P f position d ++ zeros (m - length (lookedAt P f position d))
+    looked-part frames position =
+        let out : List ℕ = lookedAt P f position d in
+        let n : ℕ = length out in
+        let m : ℕ = toPageEnd position (logicalAt d f) in
+        let most : n ≤ m = looked-most P d f position (inv .fit up .sizes .floor-logical f hf) in
+        let short : m ≤ logicalAt d f - position = omega arith in
+        split-eq m 0
+        (λ e. rw (e, none out (omega arith)))
         (λ ne.
-        ext-getD 0 (lookedAt P f position d) (part file position n)
-        (sym (length-part file position n (omega (arith, size-is))))
+        let lp : length (part file position m) ≡ m = length-part file position m (omega (arith, size-is)) in
+        ext-getD 0 (part file position m) (out ++ zeros (m - n))
+        (lp ∙ simp (length-append, length-replicate) (omega arith))
         (λ i l.
-        looked-current P d f position i l
-        ∙ sym (byte-is (position + i) (omega (arith, fits)))
-        ∙ sym (getD-part file position n i l)))
+        let l′ : i < m = rw lp at l in
+        getD-part file position m i l′
+        ∙ byte-is (position + i) (omega (arith, fits))
+        ∙ split-lt i n
+        (λ h. sym (List·getD-append out (zeros (m - n)) 0 i h ∙ looked-current P d f position i h))
+        (λ h.
+        let k : n + (i - n) ≡ i = omega arith in
+        looked-rest P d f position (inv .fit up) frames hf i h l′
+        ∙ sym (getD-zeros (m - n) (i - n))
+        ∙ sym (getD-append-add out (zeros (m - n)) (i - n) 0)
+        ∙ ap (λ (j : ℕ). getD (out ++ zeros (m - n)) j 0) k)))
       where
         none : (xs : List ℕ) → length xs ≡ 0 → xs ≡ []
         none [] e = refl
         none (y ∷ xs) e = absurd (omega arith)
-
-    -- and what it leaves out of its count is zeros
-    looked-zeros : length (d .frames) ≡ framesBytes → (position : ℕ) →
-        let n : ℕ = length (lookedAt P f position d) in
-        let rest : ℕ = toPageEnd position (logicalAt d f) - n in
-        part file (position + n) rest ≡ zeros rest
-    looked-zeros frames position =
-        let n : ℕ = length (lookedAt P f position d) in
-        let m : ℕ = toPageEnd position (logicalAt d f) in
-        let short : m ≤ logicalAt d f - position = omega arith in
-        split-eq (m - n) 0
-        (λ e. rw e)
-        (λ ne.
-        ext-getD 0 (part file (position + n) (m - n)) (zeros (m - n))
-        (length-part file (position + n) (m - n) (omega (arith, size-is)) ∙ sym (length-replicate (m - n) 0))
-        (λ i l.
-        let l′ : i < m - n = rw (length-part file (position + n) (m - n) (omega (arith, size-is))) at l in
-        let at : position + n + i ≡ position + (n + i) = omega arith in
-        getD-part file (position + n) (m - n) i l′
-        ∙ byte-is (position + n + i) (omega (arith, fits))
-        ∙ rw at (looked-rest P d f position (inv .fit up) frames hf (n + i) (omega arith) (omega arith))
-        ∙ sym (getD-zeros (m - n) i)))
 
   pub read-posix : (f position : ℕ) (buffer : List ℕ) →
       let r : Result (List ℕ) = read P f position buffer d in
@@ -190,23 +181,14 @@ module _ (P : ℕ) (d : Device) (fs : Files) (inv : Invariant P d fs) where
       let a : Coded = lookCount P f position d in
       let output : List ℕ = look P f position d in
       (IsDone a → a .count ≡ min (pageBytes - position % pageBytes) (length (fs f .current) - position))
-      × (length output ≤ a .count)
-      × (output ≡ part (fs f .current) position (length output))
-      × (let rest : ℕ = a .count - length output in part (fs f .current) (position + length output) rest ≡ zeros rest)
+      × (part (fs f .current) position (a .count) ≡ output ++ zeros (a .count - length output))
   unfolding file
   look-posix f position =
       look-by P f position d
       (λ a output. (IsDone a → a .count ≡ min (pageBytes - position % pageBytes) (length (fs f .current) - position))
-      × (length output ≤ a .count)
-      × (output ≡ part (fs f .current) position (length output))
-      × (let rest : ℕ = a .count - length output in part (fs f .current) (position + length output) rest ≡ zeros rest))
-      (λ k lo hi. (λ z. absurd (omega arith), omega arith, refl, refl))
-      (λ ad. (
-        λ _. rw (size-is f (ad .file) (ad .mounted)),
-        looked-most P d f position (inv .fit (ad .mounted) .sizes .floor-logical f (ad .file)),
-        looked-part f (ad .file) (ad .mounted) position,
-        looked-zeros f (ad .file) (ad .mounted) (ad .frames) position,
-      ))
+      × (part (fs f .current) position (a .count) ≡ output ++ zeros (a .count - length output)))
+      (λ k lo hi. (λ z. absurd (omega arith), refl))
+      (λ ad. (λ _. rw (size-is f (ad .file) (ad .mounted)), looked-part f (ad .file) (ad .mounted) (ad .frames) position))
 
   pub write-posix : (f position : ℕ) (bytes : List ℕ) →
       let r : Result Device = write P f position bytes d in
@@ -234,53 +216,28 @@ module _ (P : ℕ) (d : Device) (fs : Files) (inv : Invariant P d fs) where
   pub truncate-posix : (f n : ℕ) → IsDone (truncate P f n d .answer) → truncate P f n d .answer .count ≡ 0
   truncate-posix f n = truncate-by P f n d (λ r. IsDone (r .answer) → r .answer .count ≡ 0) (λ k lo hi z. absurd (omega arith)) (λ ad z. refl)
 
-  pub sync-posix : (f budget : ℕ) → IsDone (sync P f budget d .answer) → storeMedia P (sync P f budget d .left) f ≡ fs f .current
+  pub sync-posix : (f budget : ℕ) → IsDone (sync P f budget d .answer)
+      → (sync P f budget d .answer .count ≡ length (syncPlan P d f)) × (storeMedia P (sync P f budget d .left) f ≡ fs f .current)
   sync-posix f budget =
-      sync-by P f budget d (λ r. IsDone (r .answer) → storeMedia P (r .left) f ≡ fs f .current)
+      sync-by P f budget d
+      (λ r. IsDone (r .answer) → (r .answer .count ≡ length (syncPlan P d f)) × (storeMedia P (r .left) f ≡ fs f .current))
       (λ k lo hi z. absurd (omega arith))
       (λ ad l z. absurd (omega arith))
       (λ ad l z.
       let r = ready P d fs f inv (ad .mounted) (ad .frames) (ad .file) in
       let y : Mounted P d f (fs f) = inv .mounted (ad .mounted) f (ad .file) in
       let s = sync-done P d f r in
-      let fit : Fit P (syncedDevice P d f) = synced-fit P d f r in
-      sym
-      (on-media-is P (syncedDevice P d f) f (fit .bytes) (ad .file) (fit .sizes .stored-fits f (ad .file)) (fs f .current) (y .current-size ∙ sym (s .stored))
-      (λ i h. let hi : i < fileBytes P = omega (arith, fit .sizes .stored-fits f (ad .file)) in y .current-is i hi ∙ sym (s .byte i hi))))
+      let fit : Fit P (syncedDevice P d f) = synced-fit P d f r in (
+        refl,
+        sym
+            (on-media-is P (syncedDevice P d f) f (fit .bytes) (ad .file) (fit .sizes .stored-fits f (ad .file)) (fs f .current)
+            (y .current-size ∙ sym (s .stored))
+            (λ i h. let hi : i < fileBytes P = omega (arith, fit .sizes .stored-fits f (ad .file)) in y .current-is i hi ∙ sym (s .byte i hi))),
+      ))
 
-  -- ---- mounted or down
-
-  abbrev up : Device → Bool
-  up c = eqb (c .cache .mounted) 1
-
-  pub write-mounted : (f position : ℕ) (bytes : List ℕ) → up (write P f position bytes d .left) ≡ up d
-  write-mounted f position bytes =
-      write-by P f position bytes d (λ r. up (r .left) ≡ up d)
-      (λ k lo hi. refl)
-      (λ ad room.
-      let w = write-leaves P d (inv .fit (ad .mounted)) (ad .frames) f position bytes (ad .file) (leb-true _ _ (ad .in-range)) in
-      ap (λ (k : ℕ). eqb k 1) (w .1 .mounted))
-
-  pub truncate-mounted : (f n : ℕ) → up (truncate P f n d .left) ≡ up d
-  truncate-mounted f n =
-      truncate-by P f n d (λ r. up (r .left) ≡ up d)
-      (λ k lo hi. refl)
-      (λ ad. ap (λ (k : ℕ). eqb k 1) (truncated-mounted P d (inv .fit (ad .mounted)) (ad .frames) f n (ad .file)))
-
-  pub sync-mounted : (f budget : ℕ) → let r : Result Device = sync P f budget d in up (r .left) ≡ cond (eqb (r .answer .number) 9) false (up d)
-  unfolding syncedState
-  sync-mounted f budget =
-      sync-by P f budget d (λ r. up (r .left) ≡ cond (eqb (r .answer .number) 9) false (up d))
-      (λ k lo hi. let e : eqb k 9 ≡ false = ne-eqb k 9 (λ e. (omega arith)) in rw e)
-      (λ ad l. refl)
-      (λ ad l. refl)
-
-  pub mount-mounted : (budget : ℕ) → let r : Result Device = mount P budget d in up (r .left) ≡ cond (eqb (r .answer .number) 9) false (ifDone (r .answer) true (up d))
-  mount-mounted budget =
-      mount-by P budget d (λ r. up (r .left) ≡ cond (eqb (r .answer .number) 9) false (ifDone (r .answer) true (up d)))
-      (λ k lo hi.
-      let e : eqb k 9 ≡ false = ne-eqb k 9 (λ e. (omega arith)) in
-      let z : eqb k 0 ≡ false = ne-eqb k 0 (λ e. (omega arith)) in
-      rw (e, z))
-      (λ m l. refl)
-      (λ m n l c. refl)
+  pub mount-posix : (budget : ℕ) → IsDone (mount P budget d .answer) → mount P budget d .answer .count ≡ length (mountPlan P (d .media))
+  mount-posix budget =
+      mount-by P budget d (λ r. IsDone (r .answer) → r .answer .count ≡ length (mountPlan P (d .media)))
+      (λ k lo hi z. absurd (omega arith))
+      (λ l z. absurd (omega arith))
+      (λ l c z. refl)

@@ -1,44 +1,132 @@
--- Demand 1 of this store: eight refusals change nothing, and CUT leaves it down.
-use mathlib.Core.Path.{_≡_, refl}
-use mathlib.Core.Logic.{_⊎_, inl, inr}
-use mathlib.Core.Bool.{false}
-use mathlib.Core.List.{List, []}
-use Prim.Native.Nat.{ℕ, _<_}
-use lib.Dec.{eqb}
-use Rattle.answer.specs.Coded.{Coded, refused, CUT}
-use Rattle.cache.specs.Device.{Device}
+-- Demand 1 of this store.
+use mathlib.Core.Path.{_≡_, refl, ap, _∙_}
+use mathlib.Core.Logic.{_≢_}
+use mathlib.Core.Bool.{Bool, true}
+use mathlib.Core.List.{List, [], _∷_, _++_}
+use Prim.Native.Nat.{ℕ, _+_}
+use native.Mathlib.Omega.{arith}
+use lib.Dec.{eqb, leb}
+use lib.ListN.{length}
+use borrow.Author.Tests.{ne-eqb}
+use Rattle.answer.specs.Coded.{refused, done, NO-ROOM, CUT}
+use Rattle.answer.specs.Admission.{test, firstRefusal}
+use Rattle.media.specs.Geometry.{fileBytes}
+use Rattle.cache.specs.Device.{Device, framesBytes}
+use Rattle.cache.specs.Admission.{mediaShape, framesShape, sizesFit, stateTests, fileTests}
+use Rattle.cache.specs.Reading as Reading
+use Rattle.cache.specs.Writing as Writing
+use Rattle.cache.specs.Truncating as Truncating
+use Rattle.cache.specs.Syncing as Syncing
+use Rattle.cache.specs.Mounting as Mounting
+use Rattle.cache.specs.Looking as Looking
+use Rattle.cache.proofs.Admission.{admit-answer}
+use Rattle.cache.proofs.Plan.{budget-answer}
 use Rattle.cache.proofs.Reading.{read-by}
-use Rattle.cache.proofs.Writing.{write-by}
-use Rattle.cache.proofs.Truncating.{truncate-by}
+use Rattle.cache.proofs.Writing.{write-by, write-kept}
+use Rattle.cache.proofs.Truncating.{truncate-by, truncate-kept}
 use Rattle.cache.proofs.Looking.{look-by}
-use Rattle.cache.proofs.Syncing.{sync-by}
+use Rattle.cache.proofs.Syncing.{sync-by, sync-frames}
 use Rattle.cache.proofs.Mounting.{mount-by}
+use Rattle.model.specs.Run.{Call, Reply}
 use Rattle.model.specs.Run.Call.{read, look, write, truncate, sync, mount}
-use Rattle.model.specs.Claims.{IsDone, Demand1}
-use Rattle.model.specs.Store.{store}
+use Rattle.model.specs.Claims.{asItCame, mountedAfter, Demand1}
+use Rattle.model.specs.Store.{keeping, silent, storeDoes, storeCutShort, store}
 
 module _ (P : ℕ) where
-  -- the cases of demand 1, of a call that gives this answer, output and device
-  abbrev Cases : Type 0 → List ℕ → Device → Coded → List ℕ → Device → Type 0
-  Cases cut before d a output c =
-      IsDone a ⊎ (((k : ℕ) × (0 < k) × (k < 9) × (a ≡ refused k) × (c ≡ d) × (output ≡ before)) ⊎ cut)
+  -- ---- the first refusal that applies
+
+  pub ordered : (c : Call) (d : Device) → (n : ℕ) × (storeDoes P c d .answer ≡ firstRefusal (store P .conditions c d ++ store P .limits c d) (done n))
+  unfolding Reading.read Looking.lookCount Writing.write Truncating.truncate Syncing.sync Mounting.mount mediaShape framesShape sizesFit stateTests
+  ordered (read f position buffer) d = (_, admit-answer buffer (fileTests P d f (leb position (fileBytes P))) _)
+  ordered (look f position) d = (_, refl)
+  ordered (write f position bytes) d =
+      (_, admit-answer d (fileTests P d f (leb (position + length bytes) (fileBytes P)) ++ (test (Writing.hasRoom d f position bytes) NO-ROOM ∷ [])) _)
+  ordered (truncate f n) d = (_, admit-answer d (fileTests P d f (leb n (fileBytes P))) _)
+  ordered (sync f budget) d = (
+    _,
+    admit-answer d (fileTests P d f true) _
+        ∙ ap (firstRefusal (fileTests P d f true)) (budget-answer P budget (Syncing.syncPlan P d f) (Syncing.syncedState d f) d),
+  )
+  ordered (mount budget) d = (
+    _,
+    admit-answer d (mediaShape P d ++ sizesFit P d) _
+        ∙ ap (firstRefusal (mediaShape P d ++ sizesFit P d)) (budget-answer P budget (Mounting.mountPlan P (d .media)) _ d),
+  )
+
+  -- ---- what a call leaves
+
+  -- where it is refused, and where it is cut
+  pub record Leaves (c : Call) (d : Device) (r : Reply Device) : Type 0 where
+    pub unchanged : r .answer .number ≢ 0 → r .answer .number ≢ 9 → (r .device ≡ d) × (r .output ≡ asItCame c)
+    pub cut : r .answer .number ≡ 9 → r .device ≡ storeCutShort P c d
+
+  when-refused : (c : Call) (d : Device) (k : ℕ) → k ≢ 9 → Leaves c d (record { answer = refused k; output = asItCame c; device = d })
+  when-refused c d k ne = record { unchanged = λ _ _. (refl, refl); cut = λ z. absurd (ne z) }
+
+  when-done : (c : Call) (d : Device) (n : ℕ) (output : List ℕ) (e : Device) → Leaves c d (record { answer = done n; output = output; device = e })
+  when-done c d n output e = record { unchanged = λ z _. absurd (z refl); cut = λ z. absurd (omega arith) }
+
+  when-cut : (c : Call) (d : Device) (n : ℕ) (output : List ℕ) → Leaves c d (record { answer = CUT n; output = output; device = storeCutShort P c d })
+  when-cut c d n output = record { unchanged = λ _ z. absurd (z refl); cut = λ _. refl }
+
+  leaves : (c : Call) (d : Device) → Leaves c d (storeDoes P c d)
+  leaves (read f position buffer) d =
+      let c : Call = read f position buffer in
+      read-by P f position buffer d (λ r. Leaves (read f position buffer) d (keeping d r)) (λ k lo hi. when-refused c d k hi) (λ ad. when-done c d _ _ d)
+  leaves (look f position) d =
+      let c : Call = look f position in
+      look-by P f position d (λ a output. Leaves (look f position) d (record { answer = a; output = output; device = d }))
+      (λ k lo hi. when-refused c d k hi) (λ ad. when-done c d _ _ d)
+  leaves (write f position bytes) d =
+      let c : Call = write f position bytes in
+      write-by P f position bytes d (λ r. Leaves (write f position bytes) d (silent r)) (λ k lo hi. when-refused c d k hi) (λ ad room. when-done c d _ [] _)
+  leaves (truncate f n) d =
+      let c : Call = truncate f n in
+      truncate-by P f n d (λ r. Leaves (truncate f n) d (silent r)) (λ k lo hi. when-refused c d k hi) (λ ad. when-done c d _ [] _)
+  leaves (sync f budget) d =
+      let c : Call = sync f budget in
+      sync-by P f budget d (λ r. Leaves (sync f budget) d (silent r)) (λ k lo hi. when-refused c d k hi) (λ ad l. when-cut c d budget []) (λ ad l. when-done c d _ [] _)
+  leaves (mount budget) d =
+      let c : Call = mount budget in
+      mount-by P budget d (λ r. Leaves (mount budget) d (silent r)) (λ k lo hi. when-refused c d k hi) (λ l. when-cut c d budget []) (λ l z. when-done c d _ [] _)
+
+  -- ---- mounted or down, and the length of the frames
+
+  abbrev up : Device → Bool
+  up d = eqb (d .cache .mounted) 1
+
+  mounted-after : (c : Call) (d : Device) → up (storeDoes P c d .device) ≡ mountedAfter c (storeDoes P c d .answer) (up d)
+  unfolding Syncing.syncedState
+  mounted-after (read f position buffer) d = refl
+  mounted-after (look f position) d = refl
+  mounted-after (write f position bytes) d = ap (λ (k : ℕ). eqb k 1) (write-kept P f position bytes d .mounted)
+  mounted-after (truncate f n) d = ap (λ (k : ℕ). eqb k 1) (truncate-kept P f n d .mounted)
+  mounted-after (sync f budget) d =
+      sync-by P f budget d (λ r. up (r .left) ≡ mountedAfter (sync f budget) (r .answer) (up d))
+      (λ k lo hi. rw (ne-eqb k 9 hi))
+      (λ ad l. refl)
+      (λ ad l. refl)
+  mounted-after (mount budget) d =
+      mount-by P budget d (λ r. up (r .left) ≡ mountedAfter (mount budget) (r .answer) (up d))
+      (λ k lo hi. rw (ne-eqb k 9 hi, ne-eqb k 0 (λ e. (omega arith))))
+      (λ l. refl)
+      (λ l z. refl)
+
+  frames-kept : (c : Call) (d : Device) → length (storeDoes P c d .device .frames) ≡ length (d .frames)
+  frames-kept (read f position buffer) d = refl
+  frames-kept (look f position) d = refl
+  frames-kept (write f position bytes) d = write-kept P f position bytes d .frames
+  frames-kept (truncate f n) d = truncate-kept P f n d .frames
+  frames-kept (sync f budget) d = ap length (sync-frames P f budget d)
+  frames-kept (mount budget) d = mount-by P budget d (λ r. length (r .left .frames) ≡ length (d .frames)) (λ k lo hi. refl) (λ l. refl) (λ l z. refl)
 
   pub demand-1 : Demand1 (store P)
-  demand-1 (read f position buffer) d =
-      read-by P f position buffer d (λ r. Cases ⊥ buffer d (r .answer) (r .left) d) (λ k lo hi. inr (inl (k, lo, hi, refl, refl, refl))) (λ ad. inl refl)
-  demand-1 (look f position) d =
-      look-by P f position d (λ a output. Cases ⊥ [] d a output d) (λ k lo hi. inr (inl (k, lo, hi, refl, refl, refl))) (λ ad. inl refl)
-  demand-1 (write f position bytes) d =
-      write-by P f position bytes d (λ r. Cases ⊥ [] d (r .answer) [] (r .left)) (λ k lo hi. inr (inl (k, lo, hi, refl, refl, refl))) (λ ad room. inl refl)
-  demand-1 (truncate f n) d =
-      truncate-by P f n d (λ r. Cases ⊥ [] d (r .answer) [] (r .left)) (λ k lo hi. inr (inl (k, lo, hi, refl, refl, refl))) (λ ad. inl refl)
-  demand-1 (sync f budget) d =
-      sync-by P f budget d (λ r. Cases ((r .answer ≡ CUT budget) × (eqb (r .left .cache .mounted) 1 ≡ false)) [] d (r .answer) [] (r .left))
-      (λ k lo hi. inr (inl (k, lo, hi, refl, refl, refl)))
-      (λ ad l. inr (inr (refl, refl)))
-      (λ ad l. inl refl)
-  demand-1 (mount budget) d =
-      mount-by P budget d (λ r. Cases ((r .answer ≡ CUT budget) × (eqb (r .left .cache .mounted) 1 ≡ false)) [] d (r .answer) [] (r .left))
-      (λ k lo hi. inr (inl (k, lo, hi, refl, refl, refl)))
-      (λ m l. inr (inr (refl, refl)))
-      (λ m n l c. inl refl)
+  demand-1 c d = record {
+    count = ordered c d .0;
+    in-order = ordered c d .1;
+    unchanged = leaves c d .unchanged;
+    cut = leaves c d .cut;
+    mounted = mounted-after c d;
+    shaped = ap (λ (k : ℕ). eqb k framesBytes) (frames-kept c d);
+    limited = refl;
+  }

@@ -1,9 +1,9 @@
 -- Each wrong store fails a demand, in a run of a few calls.
-use mathlib.Core.Path.{_≡_, refl, sym, ap}
+use mathlib.Core.Path.{_≡_, refl, ap}
 use mathlib.Core.Bool.{false, false≢true}
-use mathlib.Core.Logic.{inl, inr}
+use mathlib.Core.Logic.{_⊎_, inl, inr}
 use mathlib.Core.List.{List, [], _∷_, _++_}
-use Prim.Native.Nat.{ℕ, zero, suc}
+use Prim.Native.Nat.{ℕ, zero, suc, _<_}
 use native.Mathlib.Omega.{arith}
 use lib.Dec.{eqb}
 use borrow.Author.Tests.{eqb-false}
@@ -32,8 +32,8 @@ use Rattle.model.specs.ModelFile.{Becomes}
 use Rattle.model.specs.ModelFile.Entry.{written}
 use Rattle.model.specs.Run.Call.{read, look, write, truncate, sync, mount}
 use Rattle.model.specs.Run.Event.{call}
-use Rattle.model.specs.Claims.{Cases}
-use Rattle.model.specs.RuledOut.{spoils, cutMounted, RuledOut, slotWrites}
+use Rattle.model.specs.Store.{storeCalls}
+use Rattle.model.specs.RuledOut.{RuledOut, slotWrites}
 
 -- a device that is down, with zeros on its media but for the first byte, and empty files
 blank : ℕ → ℕ → Device
@@ -56,17 +56,25 @@ not-done a e h = apart (a .number) 0 e (ap (λ (c : Coded). c .number) (h .1))
 pub ruled-out : RuledOut
 unfolding blank mounted fileStart freeWhere inOrder inRange holdsAlone isDown soundTests isSound currentAt mediaShape framesShape sizesFit stateTests Reading.read Looking.lookCount blankPage filledPage cachePage patchPage putPage grown Writing.write clearTail withSizes truncated Truncating.truncate trimWrites pageWrites sizeWrites syncPlan syncedState writeIf underBudget Syncing.sync nonzeroFrom trimsFrom mountPlan Mounting.mount slotWrites
 ruled-out = (
-  λ h. spoilt (h (truncate 0 0) (mounted 1)),
-  λ h. still-mounted (h (sync 0 0) (mounted 1)),
-  λ h. not-done DOWN refl (h (blank 1 0) 0 refl (call (read 0 0 []) ∷ []) .0 .0 (refl, refl, omega arith, omega arith)),
-  λ h. not-done NO-ROOM refl (h (blank 1 0) 0 refl (call (write 0 0 (1 ∷ [])) ∷ []) .0 .0 (refl, refl, omega arith, omega arith)),
+  λ h. not-done DOWN refl (h (mount 0) (blank 1 0) .count, h (mount 0) (blank 1 0) .in-order),
+  λ h. apart 0 5 refl (ap (λ (c : Coded). c .number) (h (write 0 0 (1 ∷ [])) (blank 1 0) .in-order)),
+  λ h. apart 0 1 refl (ap (λ (d : Device). d .cache .mounted) (h (truncate 0 0) (mounted 1) .unchanged (apart 7 0 refl) (apart 7 9 refl) .0)),
+  λ h. apart 1 0 refl (ap (λ (d : Device). d .cache .mounted) (h (sync 0 0) (mounted 1) .cut refl)),
+  λ h. apart 0 65 refl (ap (λ (d : Device). getD (d .media .bytes) 0 0) (h (sync 0 1) (storeCalls 1 .writing 0 0 (65 ∷ []) (mounted 1) .left) .cut refl)),
+  λ h. false≢true (h (mount 0) (blank 1 0) .mounted),
+  λ h. false≢true (h (write 0 0 (1 ∷ [])) (mounted 1) .mounted),
+  λ h. false≢true (h (write 0 0 (1 ∷ [])) (mounted 1) .shaped),
+  λ h. not-done DOWN refl (h (blank 1 0) 0 refl (call (read 0 0 []) ∷ []) .0 .0 ((refl, refl, omega arith), omega arith)),
+  λ h. not-done NO-ROOM refl (h (blank 1 0) 0 refl (call (write 0 0 (1 ∷ [])) ∷ []) .0 .0 ((refl, refl, omega arith), omega arith)),
+  λ h. stopped (h (blank 1 0) 0 refl (call (write 0 0 (1 ∷ 2 ∷ [])) ∷ []) .0 .1 refl),
   λ h. not-done (CUT 18) refl (h (blank 1 0) 0 refl (call (sync 0 18) ∷ []) .0 .0 (refl, refl, omega arith)),
-  λ h. apart 0 1 refl (at 0 _ _ (h (blank 1 0) 0 refl (call (write 0 0 (1 ∷ [])) ∷ call (read 0 0 (2 ∷ [])) ∷ []) .1 .0 .2 .1)),
-  λ h. apart 2 1 refl (at 0 _ _ (h (blank 1 0) 0 refl (call (write 0 0 (1 ∷ [])) ∷ call (read 0 0 (2 ∷ [])) ∷ []) .1 .0 .2 .1)),
-  λ h. apart 1 0 refl (at 0 _ _ (h (blank 1 0) 0 refl (call (write 0 0 (1 ∷ [])) ∷ call (look 0 0) ∷ []) .1 .0 .2 .3)),
+  λ h. apart 0 1 refl (at 0 _ _ (h (blank 1 0) 0 refl (call (write 0 0 (1 ∷ [])) ∷ call (read 0 0 (2 ∷ [])) ∷ []) .1 .0 .1 .2)),
+  λ h. apart 2 1 refl (at 0 _ _ (h (blank 1 0) 0 refl (call (write 0 0 (1 ∷ [])) ∷ call (read 0 0 (2 ∷ [])) ∷ []) .1 .0 .1 .2)),
+  λ h. apart 1 0 refl (at 0 _ _ (h (blank 1 0) 0 refl (call (write 0 0 (1 ∷ [])) ∷ call (look 0 0) ∷ []) .1 .0 .1 .2)),
   λ h. apart 1 2 refl
-      (at 0 _ _ (h (blank 1 0) 0 refl (call (write 0 0 (1 ∷ [])) ∷ call (sync 0 18) ∷ call (write 0 0 (2 ∷ [])) ∷ call (sync 0 18) ∷ []) .1 .1 .1 .0 .2 refl)),
-  λ h. false≢true (h (blank 1 0) 0 refl (call (write 0 0 (1 ∷ [])) ∷ []) .0 .1),
+      (at 0 _ _
+      (h (blank 1 0) 0 refl (call (write 0 0 (1 ∷ [])) ∷ call (sync 0 18) ∷ call (write 0 0 (2 ∷ [])) ∷ call (sync 0 18) ∷ []) .1 .1 .1 .0 .1 refl .1)),
+  λ h. apart 7 0 refl (h (blank 1 0) 0 refl (call (sync 0 18) ∷ []) .0 .1 refl .0),
   λ h. middle-lost
       (h (blank 2 0) 0 refl
       (call (write 0 0 (replicate 257 1)) ∷ call (sync 0 18) ∷ call (write 0 256 (6 ∷ [])) ∷ call (write 0 255 (7 ∷ 8 ∷ [])) ∷ call (sync 0 1) ∷ call (mount 0) ∷ [])
@@ -76,23 +84,19 @@ ruled-out = (
       (at 1 _ _
       (h (blank 1 0) 0 refl
       (call (write 0 0 (1 ∷ 2 ∷ 3 ∷ [])) ∷ call (sync 0 18) ∷ call (truncate 0 1) ∷ call (truncate 0 3) ∷ call (read 0 0 (9 ∷ 9 ∷ 9 ∷ [])) ∷ [])
-      .1 .1 .1 .1 .0 .2 .1)),
+      .1 .1 .1 .1 .0 .1 .2)),
   λ h. apart 2 0 refl
       (at 1 _ _
       (h (blank 1 0) 0 refl
       (call (write 0 0 (1 ∷ 2 ∷ 3 ∷ [])) ∷ call (sync 0 18) ∷ call (truncate 0 1) ∷ call (truncate 0 3) ∷ call (sync 0 18) ∷ [])
-      .1 .1 .1 .1 .0 .2 refl)),
-  λ h. apart 9 0 refl (at 0 _ _ (h (blank 1 9) 0 refl (call (truncate 0 1) ∷ call (sync 0 18) ∷ []) .1 .0 .2 refl)),
+      .1 .1 .1 .1 .0 .1 refl .1)),
+  λ h. apart 9 0 refl (at 0 _ _ (h (blank 1 9) 0 refl (call (truncate 0 1) ∷ call (sync 0 18) ∷ []) .1 .0 .1 refl .1)),
 )
   where
-    spoilt : Cases spoils (truncate 0 0) (mounted 1) → ⊥
-    spoilt (inl z) = apart 7 0 refl z
-    spoilt (inr (inl (k, lo, hi, a, e, o))) = apart 0 1 refl (ap (λ (c : Device). c .cache .mounted) e)
-
-    still-mounted : Cases cutMounted (sync 0 0) (mounted 1) → ⊥
-    still-mounted (inl z) = apart 9 0 refl z
-    still-mounted (inr (inl (k, lo, hi, a, e, o))) = let z : 9 ≡ k = ap (λ (c : Coded). c .number) a in absurd (omega arith)
-    still-mounted (inr (inr (a, e))) = false≢true (sym e)
+    -- one of two bytes was put down, and the second is in the same page
+    stopped : {X : Type 0} → (_≡_ {A = ℕ} 1 2) ⊎ ((0 < 1) × (1 < 2) × (_≡_ {A = ℕ} 1 0) × X) → ⊥
+    stopped (inl e) = apart 1 2 refl e
+    stopped (inr (a, b, e, x)) = apart 1 0 refl e
 
     -- 7 and 8 were written over the end of page 0 and the start of page 1, and 8 alone is there
     middle-lost : Becomes (replicate 257 1) (written 256 (6 ∷ []) ∷ written 255 (7 ∷ 8 ∷ []) ∷ []) (replicate 256 1 ++ (8 ∷ [])) → ⊥

@@ -17,14 +17,14 @@ use Rattle.model.specs.Run.{Call, Reply}
 use Rattle.model.specs.Run.Call.{read, write, truncate, sync, mount}
 use Rattle.model.specs.Store.{storeDoes, storeMedia}
 
--- a line of a case
-pub data Line : Type 0 where
+-- a step of a case
+pub data Step : Type 0 where
   -- the call gives this answer and this output
-  gives : Call → Coded → List ℕ → Line
+  gives : Call → Coded → List ℕ → Step
   -- the logical size of the file is n
-  hasSize : (file n : ℕ) → Line
+  hasSize : (file n : ℕ) → Step
   -- the media holds these bytes of the file
-  onMedia : (file : ℕ) (bytes : List ℕ) → Line
+  onMedia : (file : ℕ) (bytes : List ℕ) → Step
 
 abbrev pub sameBytes : List ℕ → List ℕ → Bool
 sameBytes [] [] = true
@@ -35,14 +35,14 @@ sameBytes (x ∷ xs) (y ∷ ys) = cond (eqb x y) (sameBytes xs ys) false
 abbrev pub sameAnswer : Coded → Coded → Bool
 sameAnswer a b = eqb (a .number) (b .number) && eqb (a .count) (b .count)
 
--- the lines of a case, in order, each from what the one before left
-abbrev pub plays : Device → List Line → Bool
+-- the steps of a case, in order, each from what the one before left
+abbrev pub plays : Device → List Step → Bool
 plays d [] = true
-plays d (gives c answer output ∷ lines) =
+plays d (gives c answer output ∷ steps) =
     let r : Reply Device = storeDoes pagesPerFile c d in
-    cond (sameAnswer (r .answer) answer) (cond (sameBytes (r .output) output) (plays (r .device) lines) false) false
-plays d (hasSize f n ∷ lines) = cond (eqb (logicalAt d f) n) (plays d lines) false
-plays d (onMedia f bytes ∷ lines) = cond (sameBytes (storeMedia pagesPerFile d f) bytes) (plays d lines) false
+    cond (sameAnswer (r .answer) answer) (cond (sameBytes (r .output) output) (plays (r .device) steps) false) false
+plays d (hasSize f n ∷ steps) = cond (eqb (logicalAt d f) n) (plays d steps) false
+plays d (onMedia f bytes ∷ steps) = cond (sameBytes (storeMedia pagesPerFile d f) bytes) (plays d steps) false
 
 -- a device in use: every byte is 255, and the files have their greatest size
 unfoldable pub usedDevice : Device
@@ -64,13 +64,13 @@ abbrev pub C : ℕ → List ℕ
 C n = replicate n 67
 
 -- 300 and 600 bytes A at the start of file 1, synced
-abbrev pub synced300 : List Line
+abbrev pub synced300 : List Step
 synced300 = gives (write 1 0 (A 300)) (done 300) [] ∷ gives (sync 1 3) (done 3) [] ∷ []
 
-abbrev pub synced600 : List Line
+abbrev pub synced600 : List Step
 synced600 = gives (write 1 0 (A 600)) (done 600) [] ∷ gives (sync 1 4) (done 4) [] ∷ []
 
-unfoldable pub table : List (List Line)
+unfoldable pub table : List (List Step)
 table =
     -- write 1 byte of value 1 at 4,095: count 1, size 4,096
     (gives (write 0 4095 (1 ∷ [])) (done 1) [] ∷ hasSize 0 4096 ∷ [])

@@ -4,12 +4,10 @@ use mathlib.Core.Path.{_≡_}
 use mathlib.Core.List.{List, [], _∷_}
 use lib.ListN.{length}
 use Rattle.media.specs.Geometry.{files}
-use Rattle.cache.specs.Device.{Device, floorAt}
+use Rattle.cache.specs.Device.{floorAt}
 use Rattle.model.specs.ModelFile.{Entry}
 use Rattle.model.specs.ModelFile.Entry.{written, truncated}
-use Rattle.model.specs.Run.{World, Event, start, Throughout}
-use Rattle.model.specs.Run.Call.{mount}
-use Rattle.model.specs.Claims.{IsDone}
+use Rattle.model.specs.Run.{World, Event, InEveryRun}
 use Rattle.model.specs.Store.{store}
 
 -- the smallest of a size and of the truncates in a log
@@ -23,8 +21,5 @@ abbrev pub FloorIsSmallest : (P : ℕ) → World (store P) → Event (store P) �
 FloorIsSmallest P w e =
     w .device .cache .mounted ≡ 1 → (f : ℕ) → f < files → floorAt (w .device) f ≡ smallest (length (w .files f .durable)) (w .files f .log)
 
--- from any device right after a mount that is done, through any list of calls and power losses
 abbrev pub Floor : ℕ → Type 0
-Floor P =
-    (d : Device) (budget : ℕ) → IsDone (store P .does (mount budget) d .answer) → (es : List (Event (store P)))
-    → Throughout (store P) (FloorIsSmallest P) (start (store P) (store P .does (mount budget) d .device)) es
+Floor P = InEveryRun (store P) (FloorIsSmallest P)

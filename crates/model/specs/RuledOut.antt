@@ -4,7 +4,8 @@ use Prim.Native.Nat.{ℕ, suc, min}
 use mathlib.Core.Bool.{true, cond, _&&_}
 use mathlib.Core.List.{List, [], _∷_, _++_, map}
 use lib.Dec.{eqb, leb}
-use lib.ListN.{length}
+use lib.ListN.{length, take}
+use Rattle.answer.specs.Admission.{ifDone}
 use Rattle.answer.specs.Coded.{done, DOWN, RANGE, NO-ROOM, CUT}
 use Rattle.memory.specs.Bytes.{zeros, part}
 use Rattle.media.specs.Geometry.{pageBytes, fileBytes}
@@ -59,9 +60,9 @@ module _ (P : ℕ) where
 
 -- ---- stores that are not accepted
 
--- turns every call down
-abbrev pub idle : Interface
-idle =
+-- turns every call down, but for mounts as given
+abbrev pub refusing : (ℕ → Device → Result Device) → Interface
+refusing h =
     storeWith 1
     (record {
       reading = λ f position buffer d. give DOWN buffer;
@@ -69,8 +70,20 @@ idle =
       writing = λ f position bytes d. give DOWN d;
       truncating = λ f n d. give DOWN d;
       syncing = λ f budget d. give DOWN d;
-      mounting = storeCalls 1 .mounting;
+      mounting = h;
     })
+
+-- turns every call down
+abbrev pub refusesAll : Interface
+refusesAll = refusing (λ budget d. give DOWN d)
+
+-- mounts, and turns every other call down
+abbrev pub idle : Interface
+idle = refusing (storeCalls 1 .mounting)
+
+-- accepts writes while down, and loses them
+abbrev pub writesWhileDown : Interface
+writesWhileDown = withWrite 1 (λ f position bytes d. cond (eqb (d .cache .mounted) 0) (give (done (length bytes)) d) (storeCalls 1 .writing f position bytes d))
 
 -- says NO ROOM at once
 abbrev pub neverRoom : Interface
@@ -97,6 +110,31 @@ abbrev pub pretends : Interface
 pretends =
     withSync 1 (λ f budget d.
     cond (eqb (sizeAt (d .media) f) 0) (storeCalls 1 .syncing f budget d) (give (done 0) (deviceOf (d .media) (d .frames) (syncedState d f))))
+
+-- a sync that invents its store count
+abbrev pub inventsCount : Interface
+inventsCount = withSync 1 (λ f budget d. let r : Result Device = storeCalls 1 .syncing f budget d in give (ifDone (r .answer) (done 7) (r .answer)) (r .left))
+
+-- a write that stops before it must
+abbrev pub stopsEarly : Interface
+stopsEarly = withWrite 1 (λ f position bytes d. storeCalls 1 .writing f position (take 1 bytes) d)
+
+-- a write that loses the frames
+abbrev pub losesFrames : Interface
+losesFrames =
+    withWrite 1 (λ f position bytes d.
+    let r : Result Device = storeCalls 1 .writing f position bytes d in give (r .answer) (deviceOf (r .left .media) [] (r .left .cache)))
+
+-- a mount that is done and leaves the device down
+abbrev pub staysDown : Interface
+staysDown = withMount 1 (λ budget d. let r : Result Device = storeCalls 1 .mounting budget d in give (r .answer) (deviceOf (r .left .media) (r .left .frames) downState))
+
+-- a cut that stores nothing
+abbrev pub cutStoresNone : Interface
+cutStoresNone =
+    withSync 1 (λ f budget d.
+    let r : Result Device = storeCalls 1 .syncing f budget d in
+    give (r .answer) (cond (eqb (r .answer .number) 9) (deviceOf (d .media) (d .frames) downState) (r .left)))
 
 -- a write that loses the mount
 abbrev pub dropsMount : Interface
@@ -150,16 +188,23 @@ mountLeaves = withMount 1 (λ budget d. admit (mediaShape 1 d ++ sizesFit 1 d) d
 
 abbrev pub RuledOut : Type 0
 RuledOut =
-    (Demand1 spoils → ⊥)
+    (Demand1 refusesAll → ⊥)
+    × (Demand1 writesWhileDown → ⊥)
+    × (Demand1 spoils → ⊥)
     × (Demand1 cutMounted → ⊥)
+    × (Demand1 cutStoresNone → ⊥)
+    × (Demand1 staysDown → ⊥)
+    × (Demand1 dropsMount → ⊥)
+    × (Demand1 losesFrames → ⊥)
     × (Demand2 idle → ⊥)
     × (Demand2 neverRoom → ⊥)
+    × (Demand2 stopsEarly → ⊥)
     × (Demand2 alwaysCut → ⊥)
     × (Demand2 constantRead → ⊥)
     × (Demand2 copiesNone → ⊥)
     × (Demand2 emptyLook → ⊥)
     × (Demand2 pretends → ⊥)
-    × (Demand2 dropsMount → ⊥)
+    × (Demand2 inventsCount → ⊥)
     × (Demand3 inSlotOrder → ⊥)
     × (Demand3 sizeFirst → ⊥)
     × (Demand2 latestTruncate → ⊥)

@@ -1,11 +1,13 @@
 -- Calls, what the claims see of a device, and a run: a list of calls and power losses, each from what the one before left.
-use Prim.Native.Nat.{ℕ}
+use Prim.Native.Nat.{ℕ, _<_}
+use mathlib.Core.Path.{_≡_}
 use mathlib.Core.Bool.{Bool, cond}
 use mathlib.Core.List.{List, [], _∷_}
 use lib.Dec.{eqb}
 use lib.ListN.{take}
 use Rattle.answer.specs.Coded.{Coded}
 use Rattle.answer.specs.Admission.{Test, ifDone}
+use Rattle.media.specs.Geometry.{files}
 use Rattle.model.specs.ModelFile.{ModelFile, fresh, afterWrite, afterTruncate, afterSync}
 
 pub data Call : Type 0 where
@@ -16,13 +18,16 @@ pub data Call : Type 0 where
   sync : (file budget : ℕ) → Call
   mount : (budget : ℕ) → Call
 
+abbrev pub IsDone : Coded → Type 0
+IsDone a = a .number ≡ 0
+
 -- what a call gives: its answer, the buffer that a read leaves or the bytes that a look hands back, and the device
 pub record Reply (S : Type 0) : Type 0 where
   pub answer : Coded
   pub output : List ℕ
   pub device : S
 
--- what the claims see of a device
+-- what the claims see of a device. What it says of itself here is part of each claim about it
 pub record Interface : Type 1 where
   -- all that goes from call to call
   pub State : Type 0
@@ -37,8 +42,13 @@ pub record Interface : Type 1 where
   pub isShaped : State → Bool
   -- the greatest file size
   pub greatest : State → ℕ
-  -- the refusals that remain where all else is in order: NO ROOM and CUT, with what each asks
+  -- the refusals up to RANGE, in their order, with what each asks
+  pub conditions : Call → State → List Test
+  -- those that remain where all else is in order: NO ROOM and CUT
   pub limits : Call → State → List Test
+  -- how many media writes a sync or a mount needs, and the device after as many of them as its budget pays for, cut
+  pub needed : Call → State → ℕ
+  pub cutShort : Call → State → State
 
 -- ---- the model files beside it
 
@@ -47,20 +57,20 @@ Files = ℕ → ModelFile
 
 -- file f is changed, the others stay
 abbrev pub change : ℕ → (ModelFile → ModelFile) → Files → Files
-change f h files g = cond (eqb g f) (h (files g)) (files g)
+change f h fs g = cond (eqb g f) (h (fs g)) (fs g)
 
 -- a call that is done, with its count; found is what is on the media after it
 abbrev pub told : Call → ℕ → (ℕ → List ℕ) → Files → Files
-told (read f position buffer) count found files = files
-told (look f position) count found files = files
-told (write f position bytes) count found files = change f (afterWrite position (take count bytes)) files
-told (truncate f n) count found files = change f (afterTruncate n) files
-told (sync f budget) count found files = change f afterSync files
-told (mount budget) count found files = λ f. fresh (found f)
+told (read f position buffer) count found fs = fs
+told (look f position) count found fs = fs
+told (write f position bytes) count found fs = change f (afterWrite position (take count bytes)) fs
+told (truncate f n) count found fs = change f (afterTruncate n) fs
+told (sync f budget) count found fs = change f afterSync fs
+told (mount budget) count found fs = λ f. fresh (found f)
 
 -- a refusal changes no model file
 abbrev pub feed : Call → Coded → (ℕ → List ℕ) → Files → Files
-feed c a found files = ifDone a (told c (a .count) found files) files
+feed c a found fs = ifDone a (told c (a .count) found fs) fs
 
 module _ (I : Interface) where
   pub data Event : Type 0 where
@@ -86,3 +96,21 @@ module _ (I : Interface) where
   abbrev pub Throughout : (World → Event → Type 0) → World → List Event → Type 0
   Throughout Q w [] = Unit {0}
   Throughout Q w (e ∷ es) = Q w e × Throughout Q (step w e) es
+
+  -- Q holds at every event of every run: from any device right after a mount that is done, through any list of calls and power losses
+  abbrev pub InEveryRun : (World → Event → Type 0) → Type 0
+  InEveryRun Q =
+      (d : I .State) (budget : ℕ) → IsDone (I .does (mount budget) d .answer) → (es : List Event)
+      → Throughout Q (start (I .does (mount budget) d .device)) es
+
+  -- Q holds of each file, and of what is found of it, at every mount that is done
+  abbrev pub AtMounts : (ModelFile → List ℕ → Type 0) → World → Event → Type 0
+  AtMounts Q w (call (mount budget)) =
+      let r : Reply (I .State) = I .does (mount budget) (w .device) in
+      IsDone (r .answer) → (f : ℕ) → f < files → Q (w .files f) (I .onMedia (r .device) f)
+  AtMounts Q w (call (read f position buffer)) = Unit {0}
+  AtMounts Q w (call (look f position)) = Unit {0}
+  AtMounts Q w (call (write f position bytes)) = Unit {0}
+  AtMounts Q w (call (truncate f n)) = Unit {0}
+  AtMounts Q w (call (sync f budget)) = Unit {0}
+  AtMounts Q w (powerLost x) = Unit {0}

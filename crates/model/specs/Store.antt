@@ -1,15 +1,16 @@
 -- The device of this store, as the claims see it. P is the number of pages in a file.
-use Prim.Native.Nat.{ℕ}
-use mathlib.Core.List.{List, [], _∷_}
+use Prim.Native.Nat.{ℕ, _+_}
+use mathlib.Core.Bool.{true}
+use mathlib.Core.List.{List, [], _∷_, _++_}
 use lib.Dec.{eqb, leb}
-use lib.ListN.{length}
+use lib.ListN.{length, take}
 use Rattle.answer.specs.Coded.{NO-ROOM, CUT}
 use Rattle.answer.specs.Admission.{Test, test}
 use Rattle.memory.specs.Bytes.{part}
 use Rattle.media.specs.Geometry.{fileBytes, fileStart}
-use Rattle.media.specs.Write.{sizeAt}
+use Rattle.media.specs.Write.{MediaWrite, sizeAt, applyAll}
 use Rattle.cache.specs.Device.{Device, deviceOf, framesBytes, downState}
-use Rattle.cache.specs.Admission.{Result, give}
+use Rattle.cache.specs.Admission.{Result, give, mediaShape, sizesFit, fileTests}
 use Rattle.cache.specs.Reading as Reading
 use Rattle.cache.specs.Writing as Writing
 use Rattle.cache.specs.Truncating as Truncating
@@ -51,14 +52,44 @@ storeLoses frames d = deviceOf (d .media) frames downState
 abbrev pub storeMedia : ℕ → Device → ℕ → List ℕ
 storeMedia P d f = part (d .media .bytes) (fileStart P f) (sizeAt (d .media) f)
 
+-- SHAPE to RANGE, in document 01's order
+abbrev pub storeConditions : ℕ → Call → Device → List Test
+storeConditions P (read f position buffer) d = fileTests P d f (leb position (fileBytes P))
+storeConditions P (look f position) d = fileTests P d f (leb position (fileBytes P))
+storeConditions P (write f position bytes) d = fileTests P d f (leb (position + length bytes) (fileBytes P))
+storeConditions P (truncate f n) d = fileTests P d f (leb n (fileBytes P))
+storeConditions P (sync f budget) d = fileTests P d f true
+storeConditions P (mount budget) d = mediaShape P d ++ sizesFit P d
+
+-- the media writes of a call, and its budget
+abbrev pub storePlan : ℕ → Call → Device → List MediaWrite
+storePlan P (read f position buffer) d = []
+storePlan P (look f position) d = []
+storePlan P (write f position bytes) d = []
+storePlan P (truncate f n) d = []
+storePlan P (sync f budget) d = Syncing.syncPlan P d f
+storePlan P (mount budget) d = Mounting.mountPlan P (d .media)
+
+abbrev pub budgetOf : Call → ℕ
+budgetOf (read f position buffer) = 0
+budgetOf (look f position) = 0
+budgetOf (write f position bytes) = 0
+budgetOf (truncate f n) = 0
+budgetOf (sync f budget) = budget
+budgetOf (mount budget) = budget
+
 -- NO ROOM where the first page of a write has no slot; CUT where the budget is below the media writes needed
 abbrev pub storeLimits : ℕ → Call → Device → List Test
 storeLimits P (read f position buffer) d = []
 storeLimits P (look f position) d = []
 storeLimits P (write f position bytes) d = test (Writing.hasRoom d f position bytes) NO-ROOM ∷ []
 storeLimits P (truncate f n) d = []
-storeLimits P (sync f budget) d = test (leb (length (Syncing.syncPlan P d f)) budget) (CUT budget) ∷ []
-storeLimits P (mount budget) d = test (leb (length (Mounting.mountPlan P (d .media))) budget) (CUT budget) ∷ []
+storeLimits P (sync f budget) d = test (leb (length (storePlan P (sync f budget) d)) budget) (CUT budget) ∷ []
+storeLimits P (mount budget) d = test (leb (length (storePlan P (mount budget) d)) budget) (CUT budget) ∷ []
+
+-- as many first media writes as the budget pays for, and down
+abbrev pub storeCutShort : ℕ → Call → Device → Device
+storeCutShort P c d = deviceOf (applyAll P (d .media) (take (budgetOf c) (storePlan P c d))) (d .frames) downState
 
 -- a store on this device, by its calls
 abbrev pub storeWith : ℕ → Calls → Interface
@@ -71,7 +102,10 @@ storeWith P calls = record {
   isMounted = λ d. eqb (d .cache .mounted) 1;
   isShaped = λ d. eqb (length (d .frames)) framesBytes;
   greatest = λ d. fileBytes P;
+  conditions = storeConditions P;
   limits = storeLimits P;
+  needed = λ c d. length (storePlan P c d);
+  cutShort = storeCutShort P;
 }
 
 -- the calls of this store: the definitions that the code is proved equal to
