@@ -113,12 +113,12 @@ module _ (I : Interface) where
   Served w (call c) = Succeeds w c × AsPosix w c
   Served w (powerLost x) = Unit {0}
 
-  -- DEMAND 2
+  -- DEMAND 2, in every run: from any device right after a mount that is done, through any list of calls and power losses
   abbrev pub Demand2 : Type 0
   Demand2 = InEveryRun I Served
 
   -- ---- demand 3: lost power
 
-  -- DEMAND 3: a mount that is done finds of each file what its durable bytes become by its log
+  -- DEMAND 3, in every run: a mount that is done finds of each file what its durable bytes become by its log
   abbrev pub Demand3 : Type 0
   Demand3 = InEveryRun I (AtMounts I (λ m found. Becomes (m .durable) (m .log) found))
