@@ -43,7 +43,7 @@ module _ (P : ℕ) (d : Device) where
     pub sizes : length (d .media .sizes) ≡ files
     pub frames : length (d .frames) ≡ framesBytes
     pub fit : every (λ n. leb n (fileBytes P)) (d .media .sizes) ≡ true
-    pub sound : isSound P d ≡ true
+    pub sound : isSound P (d .media .sizes) (d .cache) ≡ true
     pub mounted : d .cache .mounted ≡ 1
     pub file : f < files
     pub in-range : range ≡ true

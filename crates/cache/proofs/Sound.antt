@@ -12,13 +12,12 @@ use borrow.Author.Tests.{eqb-true, leb-true, eq-eqb, lt-ltb}
 use borrow.Table.Steps.{cases}
 use Rattle.memory.proofs.Cases.{split-eq}
 use Rattle.memory.proofs.Bytes.{getD-zeros}
-use Rattle.media.specs.Write.{Media}
 use Rattle.media.specs.Geometry.{files, fileBytes, mediaBytes}
 use Rattle.cache.specs.declared.Slot.{Slot}
 use Rattle.cache.specs.Scan.{every, everyBelow, firstIndex}
-use Rattle.cache.specs.Device.{Device, deviceOf, downState, slotCount, freeSlot, noSlots, isFree, holds, freeWhere}
+use Rattle.cache.specs.Device.{Device, downState, slotCount, freeSlot, noSlots, isFree, holds, freeWhere}
 use Rattle.cache.specs.Sizes.{inOrder}
-use Rattle.cache.specs.Sound.{inRange, holdsAlone, isDown, sizesOf, soundTests, isSound}
+use Rattle.cache.specs.Sound.{inRange, holdsAlone, isDown, sizesIn, sizesOf, soundTests, isSound}
 use Rattle.cache.proofs.Scan.{is-false, true-not-false, allOf-at, everyBelow-at, everyBelow-all, every-at, every-all, first-set, first-set-here}
 use Rattle.cache.proofs.Sizes.{order-true, order-is}
 use Rattle.cache.proofs.Device.{holds-own, holds-one, free-holds, slot-stays}
@@ -50,13 +49,13 @@ module _ (P : ℕ) where
   -- ---- what the tests say
 
   -- a mounted device with these facts is sound
-  pub fit-sound : (d : Device) → Fit d → d .cache .mounted ≡ 1 → isSound P d ≡ true
+  pub fit-sound : (d : Device) → Fit d → d .cache .mounted ≡ 1 → isSound P (d .media .sizes) (d .cache) ≡ true
   unfolding isSound soundTests holdsAlone
   fit-sound d x up =
       let named : every (inRange P) (d .cache .slots) ≡ true =
       every-all (inRange P) (d .cache .slots) freeSlot (λ k h. x .slots .named k (rw (x .slots .count) at h)) in
-      let alone : everyBelow slotCount (holdsAlone d) ≡ true =
-      everyBelow-all slotCount (holdsAlone d) (λ k h.
+      let alone : everyBelow slotCount (holdsAlone (d .cache .slots)) ≡ true =
+      everyBelow-all slotCount (holdsAlone (d .cache .slots)) (λ k h.
       cases (getD (d .cache .slots) k freeSlot .used)
       (λ u. rw (u, eq-eqb _ _ (x .slots .alone k (getD (d .cache .slots) k freeSlot) refl h u)))
       (λ u. rw u)) in
@@ -66,19 +65,19 @@ module _ (P : ℕ) where
       rw (up, named, alone, order)
 
   -- a sound device has these facts, where its lists are as long as the code's arrays
-  pub sound-fit : (d : Device) → isSound P d ≡ true → length (d .media .bytes) ≡ mediaBytes P → length (d .media .sizes) ≡ files
+  pub sound-fit : (d : Device) → isSound P (d .media .sizes) (d .cache) ≡ true → length (d .media .bytes) ≡ mediaBytes P → length (d .media .sizes) ≡ files
       → every (λ n. leb n (fileBytes P)) (d .media .sizes) ≡ true → length (d .cache .slots) ≡ slotCount
       → length (d .cache .logical) ≡ files → length (d .cache .floor) ≡ files → Fit d
   unfolding isSound soundTests holdsAlone
   sound-fit d e lb ls fit lk ll lf =
-      let order : (f : ℕ) → f < files → inOrder (fileBytes P) (sizesOf d f) ≡ true = everyBelow-at files _ (allOf-at (soundTests P d) e 3) in
+      let order : (f : ℕ) → f < files → inOrder (fileBytes P) (sizesOf d f) ≡ true = everyBelow-at files _ (allOf-at (soundTests P (d .media .sizes) (d .cache)) e 3) in
       record {
         bytes = lb;
         slots = record {
           count = lk;
-          named = λ k h. every-at (inRange P) (d .cache .slots) freeSlot (allOf-at (soundTests P d) e 1) k (rw lk h);
+          named = λ k h. every-at (inRange P) (d .cache .slots) freeSlot (allOf-at (soundTests P (d .media .sizes) (d .cache)) e 1) k (rw lk h);
           alone = λ k s es h u.
-              let t : holdsAlone d k ≡ true = everyBelow-at slotCount (holdsAlone d) (allOf-at (soundTests P d) e 2) k h in
+              let t : holdsAlone (d .cache .slots) k ≡ true = everyBelow-at slotCount (holdsAlone (d .cache .slots)) (allOf-at (soundTests P (d .media .sizes) (d .cache)) e 2) k h in
               eqb-true _ _ (rw (es, u) at t);
         };
         sizes = record {
@@ -92,13 +91,13 @@ module _ (P : ℕ) where
         };
       }
 
-  -- the down state is sound beside any media
-  pub down-sound : (m : Media) (frames : List ℕ) → isSound P (deviceOf m frames downState) ≡ true
+  -- the down state is sound beside any stored sizes
+  pub down-sound : (stored : List ℕ) → isSound P stored downState ≡ true
   unfolding isSound soundTests holdsAlone isDown inRange
-  down-sound m frames =
-      let order : everyBelow files (λ f. inOrder (fileBytes P) (sizesOf (deviceOf m frames downState) f)) ≡ true =
-      everyBelow-all files (λ f. inOrder (fileBytes P) (sizesOf (deviceOf m frames downState) f)) (λ f h.
-      order-true (fileBytes P) (sizesOf (deviceOf m frames downState) f)
+  down-sound stored =
+      let order : everyBelow files (λ f. inOrder (fileBytes P) (sizesIn stored downState f)) ≡ true =
+      everyBelow-all files (λ f. inOrder (fileBytes P) (sizesIn stored downState f)) (λ f h.
+      order-true (fileBytes P) (sizesIn stored downState f)
       (omega (arith, getD-zeros files f)) (omega (arith, getD-zeros files f)) (omega (arith, getD-zeros files f))) in
       rw order
 

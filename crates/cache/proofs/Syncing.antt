@@ -23,7 +23,7 @@ use Rattle.cache.specs.Device.{Device, deviceOf, slotCount, framesBytes,
 use Rattle.cache.specs.Current.{currentAt}
 use Rattle.cache.specs.Admission.{Result, give}
 use Rattle.cache.specs.Plan.{writeIf}
-use Rattle.cache.specs.Syncing.{trimWrites, pageWrites, sizeWrites, syncPlan, pagesOf, syncedState, sync}
+use Rattle.cache.specs.Syncing.{trimWrites, pageWrite, pageWrites, sizeWrites, syncPlan, pagesOf, syncedState, sync}
 use Rattle.cache.proofs.Current.{current-cached, current-media, current-zero, current-same}
 use Rattle.cache.proofs.Device.{slot-gone, slot-stays}
 use Rattle.cache.proofs.Admission.{Admitted, file-by}
@@ -51,7 +51,7 @@ sync-frames P f budget d = sync-by P f budget d (λ r. r .left .frames ≡ d .fr
 -- at most a TRIM, every page, and a SIZE
 module _ (d : Device) (f : ℕ) where
   pages-at-most : (n p : ℕ) → length (pageWrites d f n p) ≤ n
-  unfolding pageWrites
+  unfolding pageWrites pageWrite
   pages-at-most zero p = omega arith
   pages-at-most (suc n) p =
       simp length-append
@@ -170,7 +170,7 @@ module _ (P : ℕ) (d : Device) (f : ℕ) where
       pub sizes : c .sizes ≡ m .sizes
 
     write-pages : (k n p : ℕ) (m : Media) → p + n ≤ P → Upto p m → PagesWritten k (nextPage d f k n p) (p + n) (pageWrites d f n p) m (applyAll P m (take k (pageWrites d f n p)))
-    unfolding nextPage pageWrites writeIf
+    unfolding nextPage pageWrites pageWrite writeIf
     write-pages k zero p m h u = rw (take-nil k) (record { upto = u; all = λ _. (omega arith); sizes = refl })
     write-pages zero (suc n) p m h u =
         split-lt (slotOf d f p) slotCount
@@ -280,10 +280,10 @@ module _ (P : ℕ) (d : Device) (f : ℕ) where
 -- each write is within the limits of the media, and to the file
 module _ (P : ℕ) (d : Device) (x : Fit P d) (frames : length (d .frames) ≡ framesBytes) (f : ℕ) (hf : f < files) where
   pages-own : (n p : ℕ) → p + n ≤ P → All (Own P f) (pageWrites d f n p)
-  unfolding pageWrites
+  unfolding pageWrites pageWrite
   pages-own zero p h = tt
   pages-own (suc n) p h =
-      all-join (Own P f) (writeIf (isCached d f p) (page f p (part (d .frames) (frameStart (slotOf d f p)) pageBytes))) _
+      all-join (Own P f) (pageWrite d f p) _
       (all-if (Own P f) (isCached d f p) _ (λ e.
       let l : slotOf d f p < slotCount = ltb-true _ _ e in
       ((hf, omega arith, length-part (d .frames) (frameStart (slotOf d f p)) pageBytes (omega arith)), refl)))

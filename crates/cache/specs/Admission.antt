@@ -24,6 +24,10 @@ abbrev pub admit : {A : Type 0} → List Test → A → Result A → Result A
 admit [] before r = r
 admit (t ∷ ts) before r = cond (t .holds) (admit ts before r) (give (t .refusal) before)
 
+-- of a sound state: mounted, a file that there is, and the range
+abbrev pub mountedTests : ℕ → ℕ → Bool → List Test
+mountedTests mounted f range = test (eqb mounted 1) DOWN ∷ test (ltb f files) NO-FILE ∷ test range RANGE ∷ []
+
 module _ (P : ℕ) (d : Device) where
   -- every call: the lengths of the media and of the stored sizes
   unfoldable pub mediaShape : List Test
@@ -39,13 +43,8 @@ module _ (P : ℕ) (d : Device) where
 
   -- every call but mount and format, on file f; what RANGE asks is the call's own
   unfoldable pub stateTests : ℕ → Bool → List Test
-  stateTests f inRange =
-      test (isSound P d) BOOKS
-      ∷ test (eqb (d .cache .mounted) 1) DOWN
-      ∷ test (ltb f files) NO-FILE
-      ∷ test inRange RANGE
-      ∷ []
+  stateTests f range = test (isSound P (d .media .sizes) (d .cache)) BOOKS ∷ mountedTests (d .cache .mounted) f range
 
   -- the order for the calls on a file
   abbrev pub fileTests : ℕ → Bool → List Test
-  fileTests f inRange = mediaShape ++ framesShape ++ sizesFit ++ stateTests f inRange
+  fileTests f range = mediaShape ++ framesShape ++ sizesFit ++ stateTests f range

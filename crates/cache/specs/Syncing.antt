@@ -16,11 +16,14 @@ use Rattle.cache.specs.Plan.{writeIf, underBudget}
 unfoldable pub trimWrites : Device → ℕ → List MediaWrite
 trimWrites d f = writeIf (ltb (floorAt d f) (sizeAt (d .media) f)) (trim f (floorAt d f))
 
--- PAGE for each cached page of file f, ascending: n pages from page p on are looked at
+-- PAGE for page p, if it is cached
+unfoldable pub pageWrite : Device → ℕ → ℕ → List MediaWrite
+pageWrite d f p = writeIf (isCached d f p) (page f p (part (d .frames) (frameStart (slotOf d f p)) pageBytes))
+
+-- ascending: n pages from page p on
 unfoldable pub pageWrites : Device → ℕ → ℕ → ℕ → List MediaWrite
 pageWrites d f zero p = []
-pageWrites d f (suc n) p =
-    writeIf (isCached d f p) (page f p (part (d .frames) (frameStart (slotOf d f p)) pageBytes)) ++ pageWrites d f n (suc p)
+pageWrites d f (suc n) p = pageWrite d f p ++ pageWrites d f n (suc p)
 
 -- SIZE, if the logical size differs from the floor
 unfoldable pub sizeWrites : Device → ℕ → List MediaWrite

@@ -24,7 +24,7 @@ use Rattle.cache.specs.Writing.{blankPage, filledPage, cachePage, patchPage, pu
 use Rattle.cache.specs.Truncating as Truncating
 use Rattle.cache.specs.Truncating.{clearTail, withSizes, truncated}
 use Rattle.cache.specs.Syncing as Syncing
-use Rattle.cache.specs.Syncing.{trimWrites, pageWrites, sizeWrites, syncPlan, syncedState}
+use Rattle.cache.specs.Syncing.{trimWrites, pageWrite, pageWrites, sizeWrites, syncPlan, syncedState}
 use Rattle.cache.specs.Plan.{writeIf, underBudget}
 use Rattle.cache.specs.Mounting as Mounting
 use Rattle.cache.specs.Mounting.{nonzeroFrom, trimsFrom, mountPlan}
@@ -54,7 +54,7 @@ not-done : (a : Coded) → eqb (a .number) 0 ≡ false → (n : ℕ) × (a ≡ d
 not-done a e h = apart (a .number) 0 e (ap (λ (c : Coded). c .number) (h .1))
 
 pub ruled-out : RuledOut
-unfolding blank mounted fileStart freeWhere inOrder inRange holdsAlone isDown soundTests isSound currentAt mediaShape framesShape sizesFit stateTests Reading.read Looking.lookCount blankPage filledPage cachePage patchPage putPage grown Writing.write clearTail withSizes truncated Truncating.truncate trimWrites pageWrites sizeWrites syncPlan syncedState writeIf underBudget Syncing.sync nonzeroFrom trimsFrom mountPlan Mounting.mount slotWrites
+unfolding blank mounted fileStart freeWhere inOrder inRange holdsAlone isDown soundTests isSound currentAt mediaShape framesShape sizesFit stateTests Reading.read Looking.lookCount blankPage filledPage cachePage patchPage putPage grown Writing.write clearTail withSizes truncated Truncating.truncate trimWrites pageWrite pageWrites sizeWrites syncPlan syncedState writeIf underBudget Syncing.sync nonzeroFrom trimsFrom mountPlan Mounting.mount slotWrites
 ruled-out = (
   λ h. not-done DOWN refl (h (mount 0) (blank 1 0) .count, h (mount 0) (blank 1 0) .in-order),
   λ h. apart 0 5 refl (ap (λ (c : Coded). c .number) (h (write 0 0 (1 ∷ [])) (blank 1 0) .in-order)),
