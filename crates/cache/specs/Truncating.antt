@@ -17,7 +17,8 @@ use Rattle.cache.specs.Admission.{Result, give, admit, fileTests}
 abbrev pub pagesFrom : ℕ → ℕ → ℕ → ℕ → Bool
 pagesFrom f n g p = eqb g f && leb n (pageBytes * p)
 
--- the cached page that n falls inside gets zeros from n on; the pages from n on are freed before, so one that begins at n is not cached here
+-- the cached page that n falls inside gets zeros from n on; pages that begin at or past n are freed before this, so none of
+-- them is cached here
 unfoldable pub clearTail : ℕ → ℕ → Device → Device
 clearTail f n d =
     deviceOf (d .media)
