@@ -21,39 +21,6 @@ if-refused a r x y e = rw (← e, refusal-number)
 pub first-fails : (t : Test) (ts : List Test) (a : Coded) → t .holds ≡ false → firstRefusal (t ∷ ts) a ≡ t .refusal
 first-fails t ts a h = rw h
 
--- every test of the list has the number of a refusal
-abbrev pub refusing : List Test → Bool
-refusing [] = true
-refusing (t ∷ ts) = cond (eqb (t .refusal .number) 0) false (refusing ts)
-
-refusing-rest : (b : Bool) (x : Bool) → cond b false x ≡ true → x ≡ true
-refusing-rest true x e = absurd (false≢true e)
-refusing-rest false x e = e
-
--- where the answer is done, the first test held
-refusing-head : (t : Test) (ts : List Test) (a : Coded) → refusing (t ∷ ts) ≡ true → (firstRefusal (t ∷ ts) a) .number ≡ 0 → t .holds ≡ true
-refusing-head t ts a h e = cases (t .holds) (λ q. q) (λ q. absurd (false≢true (rw (eq-eqb _ _ (rw q at e)) at h)))
-
--- where the answer is done, every test held
-pub holds-at : (ts : List Test) (a : Coded) → refusing ts ≡ true → (firstRefusal ts a) .number ≡ 0 → (k : ℕ) → (getD ts k (test true a)) .holds ≡ true
-holds-at [] a h e k = refl
-holds-at (t ∷ ts) a h e zero = refusing-head t ts a h e
-holds-at (t ∷ ts) a h e (suc k) =
-    holds-at ts a (refusing-rest (eqb (t .refusal .number) 0) (refusing ts) h) (rw (refusing-head t ts a h e) at e) k
-
--- and the tests after them decide
-pub first-passed : (ts us : List Test) (a b : Coded) → refusing ts ≡ true → (firstRefusal ts a) .number ≡ 0 → firstRefusal (ts ++ us) b ≡ firstRefusal us b
-first-passed [] us a b h e = refl
-first-passed (t ∷ ts) us a b h e =
-    let q = refusing-head t ts a h e in
-    rw q (first-passed ts us a b (refusing-rest (eqb (t .refusal .number) 0) (refusing ts) h) (rw q at e))
-
--- a refusal by the first tests stands, whatever follows
-pub first-refused : (ts us : List Test) (a b : Coded) (r : Refusal) → a .number ≡ 0 → codedRefusal r ≡ firstRefusal ts a → codedRefusal r ≡ firstRefusal (ts ++ us) b
-first-refused [] us a b r h e = absurd (false≢true (sym (refusal-number r) ∙ eq-eqb _ _ (ap (λ (k : Coded). k .number) e ∙ h)))
-first-refused (t ∷ ts) us a b r h e =
-    cases (t .holds) (λ q. rw q (first-refused ts us a b r h (rw q at e))) (λ q. rw q (rw q at e))
-
 -- ---- tests that all hold
 
 abbrev pub passed : List Test → Bool
@@ -102,3 +69,35 @@ first-by Q (t ∷ ts) a e fails holds =
     cases (t .holds)
     (λ h. rw h (first-by Q ts a (e .1) fails (λ p. holds (rw h p))))
     (λ h. rw (h, e .0 .3) (fails (e .0 .0) (e .0 .1) (e .0 .2)))
+
+-- ---- what a done answer shows
+
+-- every test of the list has the number of a refusal
+abbrev pub refusing : List Test → Bool
+refusing [] = true
+refusing (t ∷ ts) = cond (eqb (t .refusal .number) 0) false (refusing ts)
+
+refusing-rest : (b : Bool) (x : Bool) → cond b false x ≡ true → x ≡ true
+refusing-rest true x e = absurd (false≢true e)
+refusing-rest false x e = e
+
+-- where the answer is done, every test held
+done-passed : (ts : List Test) (a : Coded) → refusing ts ≡ true → (firstRefusal ts a) .number ≡ 0 → passed ts ≡ true
+done-passed [] a h e = refl
+done-passed (t ∷ ts) a h e =
+    cases (t .holds)
+    (λ q. rw q (done-passed ts a (refusing-rest (eqb (t .refusal .number) 0) (refusing ts) h) (rw q at e)))
+    (λ q. absurd (false≢true (rw (eq-eqb _ _ (rw q at e)) at h)))
+
+pub holds-at : (ts : List Test) (a : Coded) → refusing ts ≡ true → (firstRefusal ts a) .number ≡ 0 → (k : ℕ) → (getD ts k (test true LINE)) .holds ≡ true
+holds-at ts a h e k = passed-at ts (done-passed ts a h e) k
+
+-- and the tests after them decide
+pub first-passed : (ts us : List Test) (a b : Coded) → refusing ts ≡ true → (firstRefusal ts a) .number ≡ 0 → firstRefusal (ts ++ us) b ≡ firstRefusal us b
+first-passed ts us a b h e = first-join ts us b ∙ first-all ts (firstRefusal us b) (done-passed ts a h e)
+
+-- a refusal by the first tests stands, whatever follows
+pub first-refused : (ts us : List Test) (a b : Coded) (r : Refusal) → a .number ≡ 0 → codedRefusal r ≡ firstRefusal ts a → codedRefusal r ≡ firstRefusal (ts ++ us) b
+first-refused [] us a b r h e = absurd (false≢true (sym (refusal-number r) ∙ eq-eqb _ _ (ap (λ (k : Coded). k .number) e ∙ h)))
+first-refused (t ∷ ts) us a b r h e =
+    cases (t .holds) (λ q. rw q (first-refused ts us a b r h (rw q at e))) (λ q. rw q (rw q at e))
