@@ -2,14 +2,14 @@
 use mathlib.Core.Path.{_≡_, refl}
 use mathlib.Core.Logic.{_≢_}
 use mathlib.Core.Bool.{Bool, true}
-use mathlib.Core.List.{List, [], _∷_, _++_}
+use mathlib.Core.List.{List, [], _∷_, _++_, map}
 use Prim.Native.Nat.{ℕ, _<_, _≤_}
 use native.Mathlib.Omega.{arith}
 use lib.Dec.{leb}
 use lib.ListN.{length, getD}
 use borrow.Author.Tests.{eqb-true, ltb-true, leb-true, eq-eqb, lt-ltb, le-leb}
 use borrow.Table.Steps.{cases}
-use Rattle.answer.specs.Coded.{refused, LINE}
+use Rattle.answer.specs.Coded.{refused, LINE, SHAPE, MEDIA, BOOKS, DOWN, NO-FILE, RANGE}
 use Rattle.answer.proofs.Admission.{passed, passed-at, Changeless}
 use Rattle.answer.specs.Admission.{Test, test, firstRefusal}
 use Rattle.media.specs.Geometry.{files, fileBytes, mediaBytes}
@@ -47,6 +47,12 @@ module _ (P : ℕ) (d : Device) where
     pub mounted : d .cache .mounted ≡ 1
     pub file : f < files
     pub in-range : range ≡ true
+
+  -- the order of the refusals
+  pub file-order : (f : ℕ) (range : Bool)
+      → map (λ t. t .refusal) (fileTests P d f range) ≡ SHAPE ∷ SHAPE ∷ SHAPE ∷ MEDIA ∷ BOOKS ∷ DOWN ∷ NO-FILE ∷ RANGE ∷ []
+  unfolding mediaShape framesShape sizesFit stateTests
+  file-order f range = refl
 
   pub file-changeless : (f : ℕ) (range : Bool) (us : List Test) → Changeless us → Changeless (fileTests P d f range ++ us)
   unfolding mediaShape framesShape sizesFit stateTests
@@ -91,6 +97,10 @@ module _ (P : ℕ) (d : Device) where
     pub bytes : length (d .media .bytes) ≡ mediaBytes P
     pub sizes : length (d .media .sizes) ≡ files
     pub fit : (f : ℕ) → f < files → getD (d .media .sizes) f 0 ≤ fileBytes P
+
+  pub mount-order : map (λ t. t .refusal) (mediaShape P d ++ sizesFit P d) ≡ SHAPE ∷ SHAPE ∷ MEDIA ∷ []
+  unfolding mediaShape sizesFit
+  mount-order = refl
 
   pub shape-changeless : Changeless (mediaShape P d)
   unfolding mediaShape

@@ -105,3 +105,6 @@ pub record Kept (d c : Device) : Type 0 where
 
 pub kept-all : (d : Device) → Kept d d
 kept-all d = record { media = refl; frames = refl; mounted = refl }
+
+pub kept-trans : {a b c : Device} → Kept a b → Kept b c → Kept a c
+kept-trans x y = record { media = y .media ∙ x .media; frames = y .frames ∙ x .frames; mounted = y .mounted ∙ x .mounted }

@@ -260,17 +260,18 @@ module _ (P : ℕ) where
   -- a mount is refused with everything as it came, cut, or done
   pub mount-by : (budget : ℕ) (d : Device) (Q : Result Device → Type 0)
       → ((k : ℕ) → 0 < k → k ≢ 9 → Q (give (refused k) d))
-      → (let m : Media = applyAll P (d .media) (take budget (mountPlan P (d .media))) in Left d m → Q (give (CUT budget) (deviceOf m (d .frames) downState)))
+      → (let m : Media = applyAll P (d .media) (take budget (mountPlan P (d .media))) in
+      budget < length (mountPlan P (d .media)) → Left d m → Q (give (CUT budget) (deviceOf m (d .frames) downState)))
       → (let m : Media = applyAll P (d .media) (mountPlan P (d .media)) in
-      Left d m → Clean d m → Q (give (done (length (mountPlan P (d .media)))) (deviceOf m (d .frames) (mountedState (d .media .sizes)))))
+      length (mountPlan P (d .media)) ≤ budget → Left d m → Clean d m → Q (give (done (length (mountPlan P (d .media)))) (deviceOf m (d .frames) (mountedState (d .media .sizes)))))
       → Q (mount P budget d)
   unfolding mount
   mount-by budget d Q fails cut finished =
       admit-by d Q (mediaShape P d ++ sizesFit P d) _ (mount-changeless P d) fails (λ e.
       let x = mount-admitted P d e in
       budget-by P budget (mountPlan P (d .media)) (mountedState (d .media .sizes)) d Q
-      (λ l. cut (mount-cut d x budget))
-      (λ l. finished (mount-done d x .0) (mount-done d x .1)))
+      (λ l. cut l (mount-cut d x budget))
+      (λ l. finished l (mount-done d x .0) (mount-done d x .1)))
 
   -- ---- format
 

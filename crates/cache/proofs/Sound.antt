@@ -2,23 +2,25 @@
 use mathlib.Core.Path.{_≡_, refl, sym, ap, _∙_}
 use mathlib.Core.Logic.{_≢_}
 use mathlib.Core.Bool.{Bool, true, false, _&&_, false≢true}
-use mathlib.Core.List.{List, map}
+use mathlib.Core.List.{List, [], _∷_, map}
 use Prim.Native.Nat.{ℕ, zero, suc, _<_, _≤_}
 use native.Mathlib.Omega.{arith}
-use lib.Dec.{leb}
+use lib.Dec.{eqb, leb}
 use lib.ListN.{length, getD, set, length-set, length-map, replicate, List·getD-map}
-use lib.Seq.{getD-set-same, getD-set-other, set-getD}
-use borrow.Author.Tests.{eqb-true, leb-true, eq-eqb, lt-ltb}
+use lib.Seq.{ext-getD, getD-set-same, getD-set-other, set-getD}
+use borrow.Author.Tests.{eqb-true, leb-true, eq-eqb, lt-ltb, not-true}
 use borrow.Table.Steps.{cases}
 use Rattle.memory.proofs.Cases.{split-eq}
+use Rattle.memory.specs.Bytes.{zeros}
 use Rattle.memory.proofs.Bytes.{getD-zeros}
 use Rattle.media.specs.Geometry.{files, fileBytes, mediaBytes}
 use Rattle.cache.specs.declared.Slot.{Slot}
-use Rattle.cache.specs.Scan.{every, everyBelow, firstIndex}
+use Rattle.cache.specs.declared.CacheState.{CacheState}
+use Rattle.cache.specs.Scan.{allOf, every, everyBelow, firstIndex}
 use Rattle.cache.specs.Device.{Device, downState, slotCount, freeSlot, noSlots, isFree, holds, freeWhere}
 use Rattle.cache.specs.Sizes.{inOrder}
 use Rattle.cache.specs.Sound.{inRange, holdsAlone, isDown, sizesIn, sizesOf, soundTests, isSound}
-use Rattle.cache.proofs.Scan.{is-false, true-not-false, allOf-at, everyBelow-at, everyBelow-all, every-at, every-all, first-set, first-set-here}
+use Rattle.cache.proofs.Scan.{and-left, and-right, is-false, true-not-false, allOf-at, everyBelow-at, everyBelow-all, every-at, every-all, first-set, first-set-here}
 use Rattle.cache.proofs.Sizes.{order-true, order-is}
 use Rattle.cache.proofs.Device.{holds-own, holds-one, free-holds, slot-stays}
 
@@ -47,6 +49,11 @@ module _ (P : ℕ) where
     pub sizes : SizesFit (d .cache .logical) (d .cache .floor) (d .media .sizes)
 
   -- ---- what the tests say
+
+  free-at : (n k : ℕ) → getD (replicate n freeSlot) k freeSlot ≡ freeSlot
+  free-at zero k = refl
+  free-at (suc n) zero = refl
+  free-at (suc n) (suc k) = free-at n k
 
   -- a mounted device with these facts is sound
   pub fit-sound : (d : Device) → Fit d → d .cache .mounted ≡ 1 → isSound P (d .media .sizes) (d .cache) ≡ true
@@ -91,6 +98,42 @@ module _ (P : ℕ) where
         };
       }
 
+  -- the up mark is 0 or 1
+  pub sound-mark : (stored : List ℕ) (s : CacheState) → isSound P stored s ≡ true → s .mounted ≤ 1
+  unfolding isSound soundTests
+  sound-mark stored s e = leb-true _ _ (allOf-at (soundTests P stored s) e 0)
+
+  -- a free slot carries file 0 and page 0
+  pub sound-free : (stored : List ℕ) (s : CacheState) → isSound P stored s ≡ true → (k : ℕ) → k < length (s .slots)
+      → isFree (getD (s .slots) k freeSlot) ≡ true → getD (s .slots) k freeSlot ≡ freeSlot
+  unfolding isSound soundTests inRange
+  sound-free stored s e k h free =
+      let z : Slot = getD (s .slots) k freeSlot in
+      let u : z .used ≡ false = not-true (z .used) free in
+      let r : eqb (z .file) 0 && eqb (z .page) 0 ≡ true = rw u at (every-at (inRange P) (s .slots) freeSlot (allOf-at (soundTests P stored s) e 1) k h) in
+      slot-is z u (eqb-true _ _ (and-left (eqb (z .file) 0) _ r)) (eqb-true _ _ (and-right (eqb (z .file) 0) _ r))
+    where
+      slot-is : (z : Slot) → z .used ≡ false → z .file ≡ 0 → z .page ≡ 0 → z ≡ freeSlot
+      slot-is z u f p = let q : record { used = z .used; file = z .file; page = z .page } ≡ freeSlot = rw (u, f, p) in q
+
+  -- a sound state that is down is the down state
+  pub sound-down : (stored : List ℕ) (s : CacheState) → isSound P stored s ≡ true → s .mounted ≡ 0
+      → length (s .slots) ≡ slotCount → length (s .logical) ≡ files → length (s .floor) ≡ files → s ≡ downState
+  unfolding isSound soundTests isDown
+  sound-down stored s e down lk ll lf =
+      let tests : List Bool = every isFree (s .slots) ∷ every (λ n. eqb n 0) (s .logical) ∷ every (λ n. eqb n 0) (s .floor) ∷ [] in
+      let t : allOf tests ≡ true = rw (eq-eqb _ _ down) at (allOf-at (soundTests P stored s) e 4) in
+      let slots : s .slots ≡ noSlots =
+      ext-getD freeSlot (s .slots) noSlots lk (λ k h.
+      sound-free stored s e k h (every-at isFree (s .slots) freeSlot (allOf-at tests t 0) k h) ∙ sym (free-at slotCount k)) in
+      let zero-at : (xs : List ℕ) → length xs ≡ files → every (λ n. eqb n 0) xs ≡ true → xs ≡ zeros files =
+      λ xs l z. ext-getD 0 xs (zeros files) l (λ k h. eqb-true _ _ (every-at (λ n. eqb n 0) xs 0 z k h) ∙ sym (getD-zeros files k)) in
+      state-is s down slots (zero-at (s .logical) ll (allOf-at tests t 1)) (zero-at (s .floor) lf (allOf-at tests t 2))
+    where
+      state-is : (s : CacheState) → s .mounted ≡ 0 → s .slots ≡ noSlots → s .logical ≡ zeros files → s .floor ≡ zeros files → s ≡ downState
+      state-is s a b c d =
+          let q : record { mounted = s .mounted; slots = s .slots; logical = s .logical; floor = s .floor } ≡ downState = rw (a, b, c, d) in q
+
   -- the down state is sound beside any stored sizes
   pub down-sound : (stored : List ℕ) → isSound P stored downState ≡ true
   unfolding isSound soundTests holdsAlone isDown inRange
@@ -102,11 +145,6 @@ module _ (P : ℕ) where
       rw order
 
   -- ---- what keeps the slots
-
-  free-at : (n k : ℕ) → getD (replicate n freeSlot) k freeSlot ≡ freeSlot
-  free-at zero k = refl
-  free-at (suc n) zero = refl
-  free-at (suc n) (suc k) = free-at n k
 
   pub none-fit : SlotsFit noSlots
   unfolding inRange

@@ -25,7 +25,7 @@ use Rattle.cache.specs.Current.{frameByte, currentAt}
 use Rattle.cache.specs.Admission.{Result, give, fileTests}
 use Rattle.cache.specs.Writing.{hasSlot, blankPage, filledPage, cachePage, patchPage, putPage, Written, andMore, putPages, grown, hasRoom, write}
 use Rattle.cache.proofs.Scan.{first-set, first-set-here}
-use Rattle.cache.proofs.Device.{holds-one, free-holds, slots-apart, first-free-was-free, free-apart, frame-other, Kept, kept-all}
+use Rattle.cache.proofs.Device.{holds-one, free-holds, slots-apart, first-free-was-free, free-apart, frame-other, Kept, kept-all, kept-trans}
 use Rattle.cache.proofs.Current.{current-cached, current-media, current-zero, current-same}
 use Rattle.cache.proofs.Admission.{Admitted, admit-by, file-changeless, file-admitted}
 use Rattle.answer.proofs.Admission.{passed-at, passed-first, passed-rest}
@@ -34,35 +34,22 @@ use Rattle.cache.proofs.Sound.{SlotsFit, SizesFit, Fit, take-fit, logic
 -- ---- what page steps leave, of any device
 
 -- only slots and the bytes in frames differ
-pub record SameBut (d c : Device) : Type 0 where
-  pub media : c .media ≡ d .media
-  pub frames : length (c .frames) ≡ length (d .frames)
-  pub mounted : c .cache .mounted ≡ d .cache .mounted
-  pub slots : length (c .cache .slots) ≡ length (d .cache .slots)
+record SameBut (d c : Device) : Type 0 where
+  pub kept : Kept d c
   pub logical : c .cache .logical ≡ d .cache .logical
   pub floor : c .cache .floor ≡ d .cache .floor
 
 same-refl : (d : Device) → SameBut d d
-same-refl d = record { media = refl; frames = refl; mounted = refl; slots = refl; logical = refl; floor = refl }
+same-refl d = record { kept = kept-all d; logical = refl; floor = refl }
 
 same-trans : {a b c : Device} → SameBut a b → SameBut b c → SameBut a c
-same-trans x y = record {
-  media = y .media ∙ x .media;
-  frames = y .frames ∙ x .frames;
-  mounted = y .mounted ∙ x .mounted;
-  slots = y .slots ∙ x .slots;
-  logical = y .logical ∙ x .logical;
-  floor = y .floor ∙ x .floor;
-}
+same-trans x y = record { kept = kept-trans (x .kept) (y .kept); logical = y .logical ∙ x .logical; floor = y .floor ∙ x .floor }
 
 module _ (P f : ℕ) where
   cache-same : (p : ℕ) (d : Device) → SameBut d (cachePage P f p d)
   unfolding cachePage
   cache-same p d = record {
-    media = refl;
-    frames = length-overwrite (d .frames) (frameStart (firstFree d)) (filledPage P d f p);
-    mounted = refl;
-    slots = length-set (d .cache .slots) (firstFree d) (record { used = true; file = f; page = p });
+    kept = record { media = refl; frames = length-overwrite (d .frames) (frameStart (firstFree d)) (filledPage P d f p); mounted = refl };
     logical = refl;
     floor = refl;
   }
@@ -70,10 +57,7 @@ module _ (P f : ℕ) where
   patch-same : (p offset : ℕ) (bytes : List ℕ) (d : Device) → SameBut d (patchPage f p offset bytes d)
   unfolding patchPage
   patch-same p offset bytes d = record {
-    media = refl;
-    frames = length-overwrite (d .frames) (frameStart (slotOf d f p) + offset) bytes;
-    mounted = refl;
-    slots = refl;
+    kept = record { media = refl; frames = length-overwrite (d .frames) (frameStart (slotOf d f p) + offset) bytes; mounted = refl };
     logical = refl;
     floor = refl;
   }
@@ -118,14 +102,13 @@ write-by P f position bytes d Q fails finished =
 pub write-kept : (P f position : ℕ) (bytes : List ℕ) (d : Device) → Kept d (write P f position bytes d .left)
 unfolding grown
 write-kept P f position bytes d =
-    let s = puts-same P f P position bytes d in
-    let same : Kept d (putPages P f P position bytes d .device) = record { media = s .media; frames = s .frames; mounted = s .mounted } in
+    let k = puts-same P f P position bytes d .kept in
     write-by P f position bytes d (λ r. Kept d (r .left))
     (λ k lo hi. kept-all d)
     (λ ad room.
     cases (eqb (putPages P f P position bytes d .count) 0)
-    (λ z. rw z same)
-    (λ z. rw z (record { media = s .media; frames = s .frames; mounted = s .mounted })))
+    (λ z. rw z k)
+    (λ z. rw z (record { media = k .media; frames = k .frames; mounted = k .mounted })))
 
 module _ (P : ℕ) where
   -- what a page step needs of a device
@@ -443,7 +426,7 @@ module _ (P : ℕ) where
       (s : SameBut d (w .device)) (fits : position + length bytes ≤ fileBytes P) where
     -- the sizes of the device that the pages were put into
     sizes-before : SizesFit P (w .device .cache .logical) (w .device .cache .floor) (w .device .media .sizes)
-    sizes-before = rw (s .media, s .logical, s .floor) (x .sizes)
+    sizes-before = rw (s .kept .media, s .logical, s .floor) (x .sizes)
 
     grown-leaves : Leaves f position (w .count) bytes d (grown f position w)
     unfolding grown currentAt
@@ -454,8 +437,8 @@ module _ (P : ℕ) where
         split-eq (w .count) 0
         (λ e. rw (eq-eqb (w .count) 0 e)
         (record {
-          media = s .media;
-          mounted = s .mounted;
+          media = s .kept .media;
+          mounted = s .kept .mounted;
           fit = record { bytes = p .framed .bytes; slots = p .framed .slots; sizes = z };
           frames = p .framed .frames;
           floor = λ g. ap (λ (k : List ℕ). getD k g 0) (s .floor);
@@ -471,8 +454,8 @@ module _ (P : ℕ) where
         let hl : f < length (w .device .cache .logical) = omega (arith, z .logical-count) in
         rw (ne-eqb (w .count) 0 ne)
         (record {
-          media = s .media;
-          mounted = s .mounted;
+          media = s .kept .media;
+          mounted = s .kept .mounted;
           fit = record {
             bytes = p .framed .bytes;
             slots = p .framed .slots;

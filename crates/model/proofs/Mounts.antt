@@ -133,24 +133,24 @@ module _ (P : ℕ) (d : Device) (budget : ℕ) where
   keeps-mount fs inv =
       mount-by P budget d (λ r. Invariant P (r .left) (feed (mount budget) (r .answer) (storeMedia P (r .left)) fs))
       (λ k lo hi. rw (ne-eqb k 0 (λ e. (omega arith))) inv)
-      (λ l. cut-keeps P d _ l fs inv)
-      (λ l z. done-keeps P d _ l z)
+      (λ h l. cut-keeps P d _ l fs inv)
+      (λ h l z. done-keeps P d _ l z)
 
   -- the mount before the list
   pub starts : IsDone (Mounting.mount P budget d .answer) → Invariant P (Mounting.mount P budget d .left) (λ f. fresh (storeMedia P (Mounting.mount P budget d .left) f))
   starts =
       mount-by P budget d (λ r. IsDone (r .answer) → Invariant P (r .left) (λ f. fresh (storeMedia P (r .left) f)))
       (λ k lo hi z. absurd (omega arith))
-      (λ l z. absurd (omega arith))
-      (λ l z q. done-keeps P d _ l z)
+      (λ h l z. absurd (omega arith))
+      (λ h l z q. done-keeps P d _ l z)
 
   -- what a mount in the list finds
   pub finds : (fs : Files) → Invariant P d fs → IsDone (Mounting.mount P budget d .answer) → (f : ℕ) → f < files → CrashState (fs f) (storeMedia P (Mounting.mount P budget d .left) f)
   finds fs inv is f hf =
       mount-by P budget d (λ r. IsDone (r .answer) → CrashState (fs f) (storeMedia P (r .left) f))
       (λ k lo hi z. absurd (omega arith))
-      (λ l z. absurd (omega arith))
-      (λ l z q.
+      (λ h l z. absurd (omega arith))
+      (λ h l z q.
       let m : Media = applyAll P (d .media) (Mounting.mountPlan P (d .media)) in
       found-state P (deviceOf m (d .frames) (mountedState (d .media .sizes))) f (l .bytes) hf (size-fits P d m l f hf) (fs f)
       (left-found P d m l (deviceOf m (d .frames) (mountedState (d .media .sizes))) refl f (fs f) hf (inv .found f hf)))

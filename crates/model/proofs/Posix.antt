@@ -239,5 +239,5 @@ module _ (P : ℕ) (d : Device) (fs : Files) (inv : Invariant P d fs) where
   mount-posix budget =
       mount-by P budget d (λ r. IsDone (r .answer) → r .answer .count ≡ length (mountPlan P (d .media)))
       (λ k lo hi z. absurd (omega arith))
-      (λ l z. absurd (omega arith))
-      (λ l c z. refl)
+      (λ h l z. absurd (omega arith))
+      (λ h l c z. refl)

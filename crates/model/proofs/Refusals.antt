@@ -7,10 +7,13 @@ use Prim.Native.Nat.{ℕ, _+_}
 use native.Mathlib.Omega.{arith}
 use lib.Dec.{eqb, leb}
 use lib.ListN.{length}
+use lib.Seq.{take-all}
 use borrow.Author.Tests.{ne-eqb}
 use Rattle.answer.specs.Coded.{refused, done, NO-ROOM, CUT}
 use Rattle.answer.specs.Admission.{test, firstRefusal}
-use Rattle.media.specs.Geometry.{fileBytes}
+use Rattle.memory.specs.Bytes.{part}
+use Rattle.media.specs.Geometry.{fileBytes, fileStart}
+use Rattle.media.specs.Write.{Media, sizeAt}
 use Rattle.cache.specs.Device.{Device, framesBytes}
 use Rattle.cache.specs.Admission.{mediaShape, framesShape, sizesFit, stateTests, fileTests}
 use Rattle.cache.specs.Reading as Reading
@@ -27,7 +30,7 @@ use Rattle.cache.proofs.Truncating.{truncate-by, truncate-kept}
 use Rattle.cache.proofs.Looking.{look-by}
 use Rattle.cache.proofs.Syncing.{sync-by, sync-frames}
 use Rattle.cache.proofs.Mounting.{mount-by}
-use Rattle.model.specs.Run.{Call, Reply}
+use Rattle.model.specs.Run.{Call, IsDone, Reply}
 use Rattle.model.specs.Run.Call.{read, look, write, truncate, sync, mount}
 use Rattle.model.specs.Claims.{asItCame, mountedAfter, Demand1}
 use Rattle.model.specs.Store.{keeping, silent, storeDoes, storeCutShort, store}
@@ -88,7 +91,7 @@ module _ (P : ℕ) where
       sync-by P f budget d (λ r. Leaves (sync f budget) d (silent r)) (λ k lo hi. when-refused c d k hi) (λ ad l. when-cut c d budget []) (λ ad l. when-done c d _ [] _)
   leaves (mount budget) d =
       let c : Call = mount budget in
-      mount-by P budget d (λ r. Leaves (mount budget) d (silent r)) (λ k lo hi. when-refused c d k hi) (λ l. when-cut c d budget []) (λ l z. when-done c d _ [] _)
+      mount-by P budget d (λ r. Leaves (mount budget) d (silent r)) (λ k lo hi. when-refused c d k hi) (λ h l. when-cut c d budget []) (λ h l z. when-done c d _ [] _)
 
   -- ---- mounted or down, and the length of the frames
 
@@ -109,8 +112,8 @@ module _ (P : ℕ) where
   mounted-after (mount budget) d =
       mount-by P budget d (λ r. up (r .left) ≡ mountedAfter (mount budget) (r .answer) (up d))
       (λ k lo hi. rw (ne-eqb k 9 hi, ne-eqb k 0 (λ e. (omega arith))))
-      (λ l. refl)
-      (λ l z. refl)
+      (λ h l. refl)
+      (λ h l z. refl)
 
   frames-kept : (c : Call) (d : Device) → length (storeDoes P c d .device .frames) ≡ length (d .frames)
   frames-kept (read f position buffer) d = refl
@@ -118,7 +121,25 @@ module _ (P : ℕ) where
   frames-kept (write f position bytes) d = write-kept P f position bytes d .frames
   frames-kept (truncate f n) d = truncate-kept P f n d .frames
   frames-kept (sync f budget) d = ap length (sync-frames P f budget d)
-  frames-kept (mount budget) d = mount-by P budget d (λ r. length (r .left .frames) ≡ length (d .frames)) (λ k lo hi. refl) (λ l. refl) (λ l z. refl)
+  frames-kept (mount budget) d = mount-by P budget d (λ r. length (r .left .frames) ≡ length (d .frames)) (λ k lo hi. refl) (λ h l. refl) (λ h l z. refl)
+
+  -- ---- what is on the media after a call that is done
+
+  media-paid : (c : Call) (d : Device) → IsDone (storeDoes P c d .answer) → storeDoes P c d .device .media ≡ storeCutShort P c d .media
+  media-paid (read f position buffer) d = λ z. refl
+  media-paid (look f position) d = λ z. refl
+  media-paid (write f position bytes) d = λ z. write-kept P f position bytes d .media
+  media-paid (truncate f n) d = λ z. truncate-kept P f n d .media
+  media-paid (sync f budget) d =
+      sync-by P f budget d (λ r. IsDone (r .answer) → r .left .media ≡ storeCutShort P (sync f budget) d .media)
+      (λ k lo hi z. absurd (omega arith))
+      (λ ad l z. refl)
+      (λ ad l z. rw (take-all budget (Syncing.syncPlan P d f) l))
+  media-paid (mount budget) d =
+      mount-by P budget d (λ r. IsDone (r .answer) → r .left .media ≡ storeCutShort P (mount budget) d .media)
+      (λ k lo hi z. absurd (omega arith))
+      (λ h l z. refl)
+      (λ h l c z. rw (take-all budget (Mounting.mountPlan P (d .media)) h))
 
   pub demand-1 : Demand1 (store P)
   demand-1 c d = record {
@@ -126,6 +147,7 @@ module _ (P : ℕ) where
     in-order = ordered c d .1;
     unchanged = leaves c d .unchanged;
     cut = leaves c d .cut;
+    stored = λ z f. ap (λ (m : Media). part (m .bytes) (fileStart P f) (sizeAt m f)) (media-paid c d z);
     mounted = mounted-after c d;
     shaped = ap (λ (k : ℕ). eqb k framesBytes) (frames-kept c d);
     limited = refl;

@@ -43,6 +43,10 @@ blank P first = deviceOf (mediaOf (set (zeros (mediaBytes P)) 0 first) (zeros fi
 mounted : ℕ → Device
 mounted P = deviceOf (mediaOf (zeros (mediaBytes P)) (zeros files)) (zeros framesBytes) (mountedState (zeros files))
 
+-- a file of one byte, and a cache state with the up mark 2
+odd : Device
+odd = deviceOf (mediaOf (zeros (mediaBytes 1)) (set (zeros files) 0 1)) (zeros framesBytes) (record { mounted = 2; slots = []; logical = []; floor = [] })
+
 -- two numbers that differ, and two lists or answers that differ in one of their numbers
 apart : (a b : ℕ) → eqb a b ≡ false → a ≡ b → ⊥
 apart = eqb-false
@@ -54,7 +58,7 @@ not-done : (a : Coded) → eqb (a .number) 0 ≡ false → (n : ℕ) × (a ≡ d
 not-done a e h = apart (a .number) 0 e (ap (λ (c : Coded). c .number) (h .1))
 
 pub ruled-out : RuledOut
-unfolding blank mounted fileStart freeWhere inOrder inRange holdsAlone isDown soundTests isSound currentAt mediaShape framesShape sizesFit stateTests Reading.read Looking.lookCount blankPage filledPage cachePage patchPage putPage grown Writing.write clearTail withSizes truncated Truncating.truncate trimWrites pageWrite pageWrites sizeWrites syncPlan syncedState writeIf underBudget Syncing.sync nonzeroFrom trimsFrom mountPlan Mounting.mount slotWrites
+unfolding blank mounted odd fileStart freeWhere inOrder inRange holdsAlone isDown soundTests isSound currentAt mediaShape framesShape sizesFit stateTests Reading.read Looking.lookCount blankPage filledPage cachePage patchPage putPage grown Writing.write clearTail withSizes truncated Truncating.truncate trimWrites pageWrite pageWrites sizeWrites syncPlan syncedState writeIf underBudget Syncing.sync nonzeroFrom trimsFrom mountPlan Mounting.mount slotWrites
 ruled-out = (
   λ h. not-done DOWN refl (h (mount 0) (blank 1 0) .count, h (mount 0) (blank 1 0) .in-order),
   λ h. apart 0 5 refl (ap (λ (c : Coded). c .number) (h (write 0 0 (1 ∷ [])) (blank 1 0) .in-order)),
@@ -64,10 +68,12 @@ ruled-out = (
   λ h. false≢true (h (mount 0) (blank 1 0) .mounted),
   λ h. false≢true (h (write 0 0 (1 ∷ [])) (mounted 1) .mounted),
   λ h. false≢true (h (write 0 0 (1 ∷ [])) (mounted 1) .shaped),
-  λ h. not-done DOWN refl (h (blank 1 0) 0 refl (call (read 0 0 []) ∷ []) .0 .0 ((refl, refl, omega arith), omega arith)),
-  λ h. not-done NO-ROOM refl (h (blank 1 0) 0 refl (call (write 0 0 (1 ∷ [])) ∷ []) .0 .0 ((refl, refl, omega arith), omega arith)),
+  λ h. apart 1 0 refl (ap length (h (write 0 0 (1 ∷ [])) (mounted 1) .stored refl 0)),
+  λ h. apart 0 1 refl (ap length (h (mount 0) odd .stored refl 0)),
+  λ h. let x = h (read 0 0 []) (mounted 1) in not-done DOWN refl (x .count, x .in-order),
+  λ h. let x = h (write 0 0 (1 ∷ [])) (mounted 1) in not-done NO-ROOM refl (x .count, x .in-order),
+  λ h. let x = h (sync 0 18) (mounted 1) in not-done (CUT 18) refl (x .count, x .in-order),
   λ h. stopped (h (blank 1 0) 0 refl (call (write 0 0 (1 ∷ 2 ∷ [])) ∷ []) .0 .1 refl),
-  λ h. not-done (CUT 18) refl (h (blank 1 0) 0 refl (call (sync 0 18) ∷ []) .0 .0 (refl, refl, omega arith)),
   λ h. apart 0 1 refl (at 0 _ _ (h (blank 1 0) 0 refl (call (write 0 0 (1 ∷ [])) ∷ call (read 0 0 (2 ∷ [])) ∷ []) .1 .0 .1 .2)),
   λ h. apart 2 1 refl (at 0 _ _ (h (blank 1 0) 0 refl (call (write 0 0 (1 ∷ [])) ∷ call (read 0 0 (2 ∷ [])) ∷ []) .1 .0 .1 .2)),
   λ h. apart 1 0 refl (at 0 _ _ (h (blank 1 0) 0 refl (call (write 0 0 (1 ∷ [])) ∷ call (look 0 0) ∷ []) .1 .0 .1 .2)),

@@ -44,6 +44,8 @@ pub record Answers (I : Interface) (c : Call) (d : I .State) (r : Reply (I .Stat
   pub unchanged : r .answer .number ≢ 0 → r .answer .number ≢ 9 → (r .device ≡ d) × (r .output ≡ asItCame c)
   -- CUT leaves exactly as many media writes done as the budget paid for, and the device down
   pub cut : r .answer .number ≡ 9 → r .device ≡ I .cutShort c d
+  -- done leaves on the media what its media writes leave: those of a sync or a mount are all paid for, and no other call has any
+  pub stored : IsDone (r .answer) → (f : ℕ) → I .onMedia (r .device) f ≡ I .onMedia (I .cutShort c d) f
   pub mounted : I .isMounted (r .device) ≡ mountedAfter c (r .answer) (I .isMounted d)
   -- lengths and limits stay
   pub shaped : I .isShaped (r .device) ≡ I .isShaped d
@@ -56,11 +58,11 @@ Demand1 I = (c : Call) (d : I .State) → Answers I c d (I .does c d)
 module _ (I : Interface) where
   -- ---- demand 2: POSIX
 
-  -- the device is mounted, what is borrowed has its length, and there is such a file
+  -- the device is mounted, its page frames have their length, and there is such a file
   abbrev pub Usable : I .State → ℕ → Type 0
   Usable d f = (I .isMounted d ≡ true) × (I .isShaped d ≡ true) × (f < files)
 
-  -- and the range exists
+  -- and what is asked for lies within the greatest file size
   abbrev pub Admissible : Call → I .State → Type 0
   Admissible (read f position buffer) d = Usable d f × (position ≤ I .greatest d)
   Admissible (look f position) d = Usable d f × (position ≤ I .greatest d)

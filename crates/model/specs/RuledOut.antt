@@ -1,5 +1,5 @@
 -- Wrong stores, and that the demands rule each of them out: those of document 01, "Conditions of acceptance", and its traps.
--- Each is this store with one call changed, at one or two pages in a file.
+-- Each is this store with one call changed (the first two with all of them, or all but mount), at one or two pages in a file.
 use Prim.Native.Nat.{ℕ, suc, min}
 use mathlib.Core.Bool.{true, cond, _&&_}
 use mathlib.Core.List.{List, [], _∷_, _++_, map}
@@ -8,8 +8,8 @@ use lib.ListN.{length, take}
 use Rattle.answer.specs.Admission.{ifDone}
 use Rattle.answer.specs.Coded.{done, DOWN, RANGE, NO-ROOM, CUT}
 use Rattle.memory.specs.Bytes.{zeros, part}
-use Rattle.media.specs.Geometry.{pageBytes, fileBytes}
-use Rattle.media.specs.Write.{MediaWrite, sizeAt}
+use Rattle.media.specs.Geometry.{files, pageBytes, fileBytes, mediaBytes}
+use Rattle.media.specs.Write.{MediaWrite, mediaOf, sizeAt}
 use Rattle.media.specs.Write.MediaWrite.{page}
 use Rattle.cache.specs.declared.Slot.{Slot}
 use Rattle.cache.specs.Device.{Device, deviceOf, frameStart, freeWhere, logicalAt, withSlots, downState, mountedState}
@@ -150,6 +150,20 @@ spoils = withTruncate 1 (λ f n d. give RANGE (deviceOf (d .media) (d .frames) d
 abbrev pub cutMounted : Interface
 cutMounted = withSync 1 (λ f budget d. give (CUT budget) d)
 
+-- a write that stores at once
+abbrev pub storesAtOnce : Interface
+storesAtOnce =
+    withWrite 1 (λ f position bytes d.
+    let r : Result Device = storeCalls 1 .writing f position bytes d in ifDone (r .answer) (give (r .answer) (storeCalls 1 .syncing f 18 (r .left) .left)) r)
+
+-- a mount that wipes the files of a device whose cache state it does not like
+abbrev pub wipes : Interface
+wipes =
+    withMount 1 (λ budget d.
+    let r : Result Device = storeCalls 1 .mounting budget d in
+    cond (leb (d .cache .mounted) 1) r
+    (ifDone (r .answer) (give (r .answer) (deviceOf (mediaOf (zeros (mediaBytes 1)) (zeros files)) (d .frames) (mountedState (zeros files)))) r))
+
 -- ---- the traps
 
 -- storing pages in slot order
@@ -196,10 +210,12 @@ RuledOut =
     × (Demand1 staysDown → ⊥)
     × (Demand1 dropsMount → ⊥)
     × (Demand1 losesFrames → ⊥)
-    × (Demand2 idle → ⊥)
-    × (Demand2 neverRoom → ⊥)
+    × (Demand1 storesAtOnce → ⊥)
+    × (Demand1 wipes → ⊥)
+    × (Demand1 idle → ⊥)
+    × (Demand1 neverRoom → ⊥)
+    × (Demand1 alwaysCut → ⊥)
     × (Demand2 stopsEarly → ⊥)
-    × (Demand2 alwaysCut → ⊥)
     × (Demand2 constantRead → ⊥)
     × (Demand2 copiesNone → ⊥)
     × (Demand2 emptyLook → ⊥)

@@ -32,13 +32,13 @@ pub record Interface : Type 1 where
   -- all that goes from call to call
   pub State : Type 0
   pub does : Call → State → Reply State
-  -- what a lost power may leave, whatever it leaves of the bytes that are not kept
+  -- what lost power leaves of the bytes that are not kept, and the state after it
   pub Loss : Type 0
   pub lose : Loss → State → State
   -- the bytes of each file on the media: as many as its stored size
   pub onMedia : State → ℕ → List ℕ
   pub isMounted : State → Bool
-  -- what is borrowed beside the cache state has its length
+  -- the page frames have their length; that the media has its lengths, a done mount shows
   pub isShaped : State → Bool
   -- the greatest file size
   pub greatest : State → ℕ

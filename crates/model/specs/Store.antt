@@ -29,10 +29,11 @@ pub record Calls : Type 0 where
   pub syncing : ℕ → ℕ → Device → Result Device
   pub mounting : ℕ → Device → Result Device
 
--- a call that leaves the device, and a call with no output
+-- a call that leaves the device
 abbrev pub keeping : Device → Result (List ℕ) → Reply Device
 keeping d r = record { answer = r .answer; output = r .left; device = d }
 
+-- a call with no output
 abbrev pub silent : Result Device → Reply Device
 silent r = record { answer = r .answer; output = []; device = r .left }
 
@@ -108,7 +109,7 @@ storeWith P calls = record {
   cutShort = storeCutShort P;
 }
 
--- the calls of this store: the definitions that the code is proved equal to
+-- the calls of this store, as defined in crate `cache`
 abbrev pub storeCalls : ℕ → Calls
 storeCalls P = record {
   reading = Reading.read P;
