@@ -106,6 +106,10 @@ module _ (P : ℕ) (d : Device) where
   unfolding mediaShape
   shape-changeless = ((2, omega arith, λ e. (omega arith), refl), ((2, omega arith, λ e. (omega arith), refl), tt))
 
+  pub shape-admitted : passed (mediaShape P d) ≡ true → (length (d .media .bytes) ≡ mediaBytes P) × (length (d .media .sizes) ≡ files)
+  unfolding mediaShape
+  shape-admitted e = (eqb-true _ _ (passed-at (mediaShape P d) e 0), eqb-true _ _ (passed-at (mediaShape P d) e 1))
+
   pub mount-changeless : Changeless (mediaShape P d ++ sizesFit P d)
   unfolding mediaShape sizesFit
   mount-changeless = ((2, omega arith, λ e. (omega arith), refl), ((2, omega arith, λ e. (omega arith), refl), ((3, omega arith, λ e. (omega arith), refl), tt)))

@@ -25,7 +25,7 @@ use Rattle.cache.specs.Admission.{Result, give, mediaShape, sizesFit}
 use Rattle.cache.specs.Plan.{writeIf}
 use Rattle.cache.specs.Mounting.{trimsFrom, nonzeroFrom, mountPlan, mount, formatPlan, format}
 use Rattle.cache.proofs.Scan.{or-left, or-right, every-at}
-use Rattle.cache.proofs.Admission.{admit-by, Mountable, shape-changeless, mount-changeless, mount-admitted}
+use Rattle.cache.proofs.Admission.{admit-by, Mountable, shape-admitted, shape-changeless, mount-changeless, mount-admitted}
 use Rattle.cache.proofs.Plan.{budget-by, all-join, all-if}
 
 module _ (P : ℕ) where
@@ -300,9 +300,11 @@ module _ (P : ℕ) where
       → ((k : ℕ) → 0 < k → k ≢ 9 → Q (give (refused k) d))
       → (budget < length (formatPlan P (d .media))
       → Q (give (CUT budget) (deviceOf (applyAll P (d .media) (take budget (formatPlan P (d .media)))) (d .frames) downState)))
-      → (length (formatPlan P (d .media)) ≤ budget
+      → (length (formatPlan P (d .media)) ≤ budget → length (d .media .bytes) ≡ mediaBytes P → length (d .media .sizes) ≡ files
       → Q (give (done (length (formatPlan P (d .media)))) (deviceOf (applyAll P (d .media) (formatPlan P (d .media))) (d .frames) downState)))
       → Q (format P budget d)
   unfolding format
   format-by budget d Q fails cut finished =
-      admit-by d Q (mediaShape P d) _ (shape-changeless P d) fails (λ e. budget-by P budget (formatPlan P (d .media)) downState d Q cut finished)
+      admit-by d Q (mediaShape P d) _ (shape-changeless P d) fails (λ e.
+      let x = shape-admitted P d e in
+      budget-by P budget (formatPlan P (d .media)) downState d Q cut (λ l. finished l (x .0) (x .1)))

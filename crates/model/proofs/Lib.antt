@@ -7,6 +7,7 @@ pub mod Syncs
 pub mod Mounts
 pub mod Posix
 pub mod Refusals
+pub mod Format
 pub mod Claims
 pub mod RuledOut
 pub mod Edges

@@ -4,5 +4,6 @@ pub mod Claims
 pub mod States
 pub mod Store
 pub mod Floor
+pub mod Format
 pub mod Edges
 pub mod RuledOut
