@@ -331,6 +331,14 @@ module _ (P : ℕ) (d : Device) (f : ℕ) (r : Ready P d f) where
   unfolding syncedState
   synced-free q = slot-gone (pagesOf f) f q (d .cache .slots) (eq-eqb f f refl) ∙ r .fit .slots .count
 
+  -- a page is cached that was, and none of the file
+  pub synced-cached : (g q : ℕ) → isCached (syncedDevice P d f) g q ≡ true → (isCached d g q ≡ true) × (g ≢ f)
+  unfolding syncedState
+  synced-cached g q h =
+      split-eq g f
+      (λ e. let l : slotOf (syncedDevice P d f) f q < slotCount = ltb-true _ _ (rw e at h) in absurd (omega (arith, synced-free q)))
+      (λ ne. (rw (slot-stays (pagesOf f) g q (d .cache .slots) (ne-eqb g f ne)) at h, ne))
+
   -- the current bytes stay, where those past the logical size are 0
   pub synced-own : (i : ℕ) → i < fileBytes P → (logicalAt d f ≤ i → currentAt P d f i ≡ 0) → currentAt P (syncedDevice P d f) f i ≡ currentAt P d f i
   synced-own i hi past =

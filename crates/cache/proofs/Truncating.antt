@@ -1,13 +1,14 @@
 -- What a truncate does to the current bytes and the sizes.
 use mathlib.Core.Path.{_≡_, refl, _∙_}
 use mathlib.Core.Logic.{_≢_}
+use mathlib.Core.Bool.{true}
 use Prim.Native.Nat.{ℕ, _+_, _-_, _*_, _/_, _%_, _≤_, _<_, min}
 use native.Mathlib.Omega.{arith}
 use lib.Dec.{leb}
 use lib.ListN.{length, getD, length-map, length-replicate}
 use lib.Seq.{getD-set-same, getD-set-other}
 use borrow.Table.Steps.{cases}
-use borrow.Author.Tests.{eq-eqb, ne-eqb, lt-ltb, le-ltb, le-leb, lt-leb}
+use borrow.Author.Tests.{eq-eqb, ne-eqb, lt-ltb, le-ltb, le-leb, lt-leb, ltb-true}
 use Rattle.answer.specs.Coded.{refused, done}
 use Rattle.memory.specs.Bytes.{zeros, overwrite}
 use Rattle.memory.proofs.Cases.{split-lt, split-eq}
@@ -90,6 +91,16 @@ module _ (P : ℕ) (d : Device) (x : Fit P d) (frames : length (d .frames) ≡ f
   slot-freed : (q : ℕ) → n ≤ pageBytes * q → slotOf (truncated f n d) f q ≡ slotCount
   unfolding truncated clearTail withSizes
   slot-freed q h = slot-gone (pagesFrom f n) f q (d .cache .slots) (rw (eq-eqb f f refl, le-leb _ _ h)) ∙ x .slots .count
+
+  -- a page is cached that was, and of file f only where it begins below n
+  pub truncated-cached : (g q : ℕ) → isCached (truncated f n d) g q ≡ true → (isCached d g q ≡ true) × (g ≡ f → pageBytes * q < n)
+  truncated-cached g q h =
+      split-eq g f
+      (λ e.
+      split-lt (pageBytes * q) n
+      (λ l. (rw (slot-kept g q (λ _. l)) at h, λ _. l))
+      (λ l. let k : slotOf (truncated f n d) f q < slotCount = ltb-true _ _ (rw e at h) in absurd (omega (arith, slot-freed q l))))
+      (λ ne. (rw (slot-kept g q (λ e. absurd (ne e))) at h, λ e. absurd (ne e)))
 
   slots-count : length (truncated f n d .cache .slots) ≡ slotCount
   unfolding truncated clearTail withSizes

@@ -6,7 +6,7 @@ use mathlib.Core.List.{List, [], _∷_, _++_}
 use Prim.Native.Nat.{ℕ, zero, suc, _+_, _-_, _*_, _/_, _%_, _≤_, _<_, min, max}
 use native.Mathlib.Omega.{arith}
 use lib.Dec.{leb, eqb}
-use lib.ListN.{length, getD, take, drop, length-set, length-take, length-drop, length-replicate}
+use lib.ListN.{length, getD, set, take, drop, length-take, length-drop, length-replicate}
 use native.Mathlib.Nat.{add-zero}
 use lib.Seq.{getD-take, getD-drop, drop-drop, getD-set-same, getD-set-other}
 use borrow.Author.Tests.{ltb-true, lt-ltb, le-ltb, eq-eqb, ne-eqb}
@@ -20,6 +20,7 @@ use Rattle.media.specs.Geometry.{files, pageBytes, fileBytes, mediaBytes, pageS
 use Rattle.media.specs.Write.{byteAt}
 use Rattle.media.proofs.Geometry.{file-end, page-end}
 use Rattle.cache.specs.declared.Slot.{Slot}
+use Rattle.cache.specs.Scan.{firstIndex}
 use Rattle.cache.specs.Device.{Device, slotCount, framesBytes, frameStart, freeSlot, isFree, holds, slotOf, isCached, firstFree, logicalAt, floorAt}
 use Rattle.cache.specs.Current.{frameByte, currentAt}
 use Rattle.cache.specs.Admission.{Result, give, fileTests}
@@ -300,6 +301,28 @@ module _ (P : ℕ) where
           others = λ g i ne. y .others g i ne ∙ same g i;
         }))
 
+    -- it caches no other page
+    put-cached : hasSlot d f p ≡ true → (g q : ℕ) → isCached (putPage P f p offset bytes d) g q ≡ true → (isCached d g q ≡ true) ⊎ ((g ≡ f) × (q ≡ p))
+    unfolding putPage patchPage cachePage
+    put-cached room g q =
+        split-lt (slotOf d f p) slotCount
+        (λ l. rw (lt-ltb _ _ l) (λ h. inl h))
+        (λ l.
+        let free : firstFree d < slotCount = ltb-true _ _ (rw (le-ltb _ _ l) at room) in
+        let y : Slot = record { used = true; file = f; page = p } in
+        rw (le-ltb _ _ l)
+        (λ h.
+        split-eq g f
+        (λ eg. split-eq q p (λ eq. inr (eg, eq)) (λ ne. inl (rw (apart free g q (λ e. ne (e .1))) at h)))
+        (λ ne. inl (rw (apart free g q (λ e. ne (e .0))) at h))))
+      where
+        apart : firstFree d < slotCount → (g q : ℕ) → ((g ≡ f) × (q ≡ p) → ⊥)
+            → firstIndex (holds g q) (set (d .cache .slots) (firstFree d) (record { used = true; file = f; page = p })) ≡ slotOf d g q
+        apart l g q ne =
+            first-set (holds g q) (d .cache .slots) (firstFree d) (record { used = true; file = f; page = p }) freeSlot
+            (holds-one f p g q (record { used = true; file = f; page = p }) refl refl ne)
+            (free-holds g q (getD (d .cache .slots) (firstFree d) freeSlot) (first-free-was-free d (omega (arith, x .slots .count))))
+
   -- ---- page after page
 
   puts-none : (f a : ℕ) (bytes : List ℕ) (d : Device) → Framed d → Puts f a 0 bytes d d
@@ -336,11 +359,14 @@ module _ (P : ℕ) where
   pub record Wrote (f position : ℕ) (bytes : List ℕ) (d : Device) (w : Written) : Type 0 where
     pub most : w .count ≤ length bytes
     pub puts : Puts f position (w .count) bytes d (w .device)
+    -- a page is cached that was, or that a byte was put into
+    pub cached : (g q : ℕ) → isCached (w .device) g q ≡ true
+        → (isCached d g q ≡ true) ⊎ ((g ≡ f) × (0 < w .count) × (position < pageBytes * suc q) × (pageBytes * q < position + w .count))
 
   pub put-pages : (f : ℕ) → f < files → (n position : ℕ) (bytes : List ℕ) (d : Device) → Framed d → position + length bytes ≤ fileBytes P
       → Wrote f position bytes d (putPages P f n position bytes d)
-  put-pages f hf zero position bytes d x fit = record { most = omega arith; puts = puts-none f position bytes d x }
-  put-pages f hf (suc n) position [] d x fit = record { most = omega arith; puts = puts-none f position [] d x }
+  put-pages f hf zero position bytes d x fit = record { most = omega arith; puts = puts-none f position bytes d x; cached = λ g q h. inl h }
+  put-pages f hf (suc n) position [] d x fit = record { most = omega arith; puts = puts-none f position [] d x; cached = λ g q h. inl h }
   put-pages f hf (suc n) position (b ∷ bs) d x fit =
       let bytes : List ℕ = b ∷ bs in
       let p : ℕ = position / pageBytes in
@@ -357,8 +383,17 @@ module _ (P : ℕ) where
       record {
         most = omega (arith, rest .most);
         puts = puts-more f position m (pageBytes * suc p) _ (b ∷ bs) d _ _ (omega arith) (rest .most) one (rest .puts);
+        cached = λ g q h.
+            elim (rest .cached g q h) [
+              | inl y ↦
+                  (elim (put-cached d x f p offset (take m (b ∷ bs)) hf (omega arith) (omega arith) e g q y) [
+                    | inl z ↦ inl z
+                    | inr z ↦ inr (z .0, omega arith, omega (arith, z .1), omega (arith, z .1))
+                  ])
+              | inr y ↦ inr (y .0, omega arith, omega (arith, y .2), omega (arith, y .2, y .3, rest .most))
+            ];
       }))
-      (λ e. rw e (record { most = omega arith; puts = puts-none f position (b ∷ bs) d x }))
+      (λ e. rw e (record { most = omega arith; puts = puts-none f position (b ∷ bs) d x; cached = λ g q h. inl h }))
 
   -- it stops only where the rest would be NO ROOM: at the start of a page that is not cached and has no slot
   pub record Stopped (f position : ℕ) (bytes : List ℕ) (w : Written) : Type 0 where
@@ -421,6 +456,8 @@ module _ (P : ℕ) where
     pub below : (i : ℕ) → i < position → currentAt P c f i ≡ currentAt P d f i
     pub above : (i : ℕ) → position + n ≤ i → currentAt P c f i ≡ currentAt P d f i
     pub others : (g i : ℕ) → g ≢ f → currentAt P c g i ≡ currentAt P d g i
+    -- a page is cached that was, or that a byte was put into
+    pub cached : (g q : ℕ) → isCached c g q ≡ true → (isCached d g q ≡ true) ⊎ ((g ≡ f) × (0 < n) × (position < pageBytes * suc q) × (pageBytes * q < position + n))
 
   module _ (d : Device) (x : Fit P d) (f position : ℕ) (bytes : List ℕ) (w : Written) (hf : f < files) (wrote : Wrote f position bytes d w)
       (s : SameBut d (w .device)) (fits : position + length bytes ≤ fileBytes P) where
@@ -448,6 +485,7 @@ module _ (P : ℕ) where
           below = p .below;
           above = p .above;
           others = p .others;
+          cached = wrote .cached;
         }))
         (λ ne.
         let m : ℕ = max (logicalAt (w .device) f) (position + w .count) in
@@ -471,6 +509,7 @@ module _ (P : ℕ) where
           below = p .below;
           above = p .above;
           others = p .others;
+          cached = wrote .cached;
         }))
 
   -- a write that is admitted

@@ -3,6 +3,7 @@ use mathlib.Core.Path.{refl, sym, _∙_}
 use Prim.Native.Nat.{ℕ}
 use lib.Dec.{eqb}
 use Rattle.media.specs.Geometry.{pagesPerFile}
+use borrow.Author.Tests.{eqb-true}
 use borrow.Table.Steps.{cases}
 use Rattle.answer.specs.Coded.{Coded}
 use Rattle.answer.specs.Admission.{ifDone}
@@ -11,7 +12,7 @@ use Rattle.model.specs.ModelFile.{Becomes}
 use Rattle.model.specs.Run.{IsDone, World, Event, step, start, InEveryRun, AtMounts}
 use Rattle.model.specs.Run.Call.{read, look, write, truncate, sync, mount}
 use Rattle.model.specs.Run.Event.{call, powerLost}
-use Rattle.model.specs.Claims.{Demand1, Served, Demand2, Demand3}
+use Rattle.model.specs.Claims.{Demand1, CachedByLog, Served, Demand2, Demand3}
 use Rattle.model.specs.States.{CrashState, ClosedForm}
 use Rattle.model.specs.Store.{store, storeDoes, storeMedia}
 use Rattle.model.specs.Floor.{FloorIsSmallest, Floor}
@@ -54,27 +55,33 @@ module _ (P : ℕ) where
   everywhere : (Q : World (store P) → Event (store P) → Type 0) → ((w : World (store P)) (e : Event (store P)) → Holds w → Q w e) → InEveryRun (store P) Q
   everywhere Q at = in-every-run (store P) Holds start-holds keeps Q at
 
+  cached-by-log : (w : World (store P)) → Holds w → CachedByLog (store P) w
+  cached-by-log w inv up f q hf h = inv .mounted (eqb-true _ _ up) f hf .cached q h
+
   served : (w : World (store P)) (e : Event (store P)) → Holds w → Served (store P) w e
   served w (call (read f position buffer)) inv =
       let r = read-posix P (w .device) (w .files) inv f position buffer in
-      (λ h. read-succeeds P (w .device) (w .files) inv (h .0 .0) (h .0 .1) f (h .0 .2) position buffer (h .1), (refl, r .0, r .1))
+      (λ h. read-succeeds P (w .device) (w .files) inv (h .0 .0) (h .0 .1) f (h .0 .2) position buffer (h .1), (refl, r .0, r .1), cached-by-log w inv)
   served w (call (look f position)) inv =
       let r = look-posix P (w .device) (w .files) inv f position in
-      (λ h. look-succeeds P (w .device) (w .files) inv (h .0 .0) (h .0 .1) f (h .0 .2) position (h .1), (refl, r .0, r .1))
+      (λ h. look-succeeds P (w .device) (w .files) inv (h .0 .0) (h .0 .1) f (h .0 .2) position (h .1), (refl, r .0, r .1), cached-by-log w inv)
   served w (call (write f position bytes)) inv = (
     λ h. write-succeeds P (w .device) (w .files) inv (h .0 .0) (h .0 .1) f (h .0 .2) position bytes (h .1),
     write-posix P (w .device) (w .files) inv f position bytes,
+    cached-by-log w inv,
   )
   served w (call (truncate f n)) inv = (
     λ h. truncate-succeeds P (w .device) (w .files) inv (h .0 .0) (h .0 .1) f (h .0 .2) n (h .1),
     truncate-posix P (w .device) (w .files) inv f n,
+    cached-by-log w inv,
   )
   served w (call (sync f budget)) inv = (
     λ h. sync-succeeds P (w .device) (w .files) inv (h .0) (h .1) f (h .2) budget,
     sync-posix P (w .device) (w .files) inv f budget,
+    cached-by-log w inv,
   )
   served w (call (mount budget)) inv =
-      (λ h. mount-succeeds P (w .device) (w .files) inv budget, mount-posix P (w .device) (w .files) inv budget)
+      (λ h. mount-succeeds P (w .device) (w .files) inv budget, mount-posix P (w .device) (w .files) inv budget, cached-by-log w inv)
   served w (powerLost frames) inv = tt
 
   finds-state : (w : World (store P)) (e : Event (store P)) → Holds w → AtMounts (store P) CrashState w e

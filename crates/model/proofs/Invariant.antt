@@ -1,6 +1,7 @@
 -- The invariant of a run: file by file, what the model file knows of the device.
 use mathlib.Core.Path.{_≡_, refl, sym, _∙_, subst}
 use mathlib.Core.Logic.{_≢_, inl}
+use mathlib.Core.Bool.{true, false}
 use mathlib.Core.List.{List}
 use Prim.Native.Nat.{ℕ, _-_, _≤_, _<_}
 use native.Mathlib.Omega.{arith}
@@ -12,11 +13,11 @@ use Rattle.memory.proofs.Bytes.{length-part, getD-part}
 use Rattle.media.specs.Geometry.{files, fileBytes, mediaBytes, fileStart}
 use Rattle.media.specs.Write.{byteAt, sizeAt}
 use Rattle.media.proofs.Geometry.{file-end}
-use Rattle.cache.specs.Device.{Device, logicalAt, floorAt}
+use Rattle.cache.specs.Device.{Device, isCached, logicalAt, floorAt}
 use Rattle.cache.specs.Current.{currentAt}
 use Rattle.cache.proofs.Sound.{Fit}
 use Rattle.cache.proofs.Admission.{Mountable}
-use Rattle.model.specs.ModelFile.{ModelFile}
+use Rattle.model.specs.ModelFile.{ModelFile, cachedBy}
 use Rattle.model.specs.Run.{Files, change}
 use Rattle.model.specs.States.{replay, CrashState}
 use Rattle.model.specs.Store.{storeMedia}
@@ -51,6 +52,7 @@ module _ (P : ℕ) where
     pub durable-size : length (m .durable) ≡ sizeAt (d .media) g
     pub durable-is : (i : ℕ) → i < fileBytes P → getD (m .durable) i 0 ≡ byteAt P (d .media) g i
     pub mixed : (boundary : ℕ) → Mixed d g boundary (replay boundary (m .durable) (m .log))
+    pub cached : (q : ℕ) → isCached d g q ≡ true → cachedBy (m .log) q false ≡ true
 
   -- ---- of the device
 
@@ -71,6 +73,7 @@ module _ (P : ℕ) where
     pub logical-is : logicalAt c g ≡ logicalAt d g
     pub floor-is : floorAt c g ≡ floorAt d g
     pub current-is : (i : ℕ) → i < fileBytes P → currentAt P c g i ≡ currentAt P d g i
+    pub cached-was : (q : ℕ) → isCached c g q ≡ true → isCached d g q ≡ true
 
   pub same-found : {d c : Device} {g : ℕ} {m : ModelFile} → SameStored d c g → Found d g m → Found c g m
   same-found s x = record {
@@ -93,6 +96,7 @@ module _ (P : ℕ) where
           low = λ i l hi lt. y .low i (rw (s .floor-is) at l) hi lt ∙ sym (s .current-is i hi);
           high = λ i l hi ge. y .high i (rw (s .floor-is) at l) hi ge ∙ sym (s .stored .byte-is i hi);
         };
+    cached = λ q h. x .cached q (s .cached-was q h);
   }
 
   -- a mounted file is found as its durable bytes

@@ -2,6 +2,7 @@
 use mathlib.Core.Path.{_≡_, refl, sym, ap, _∙_}
 use mathlib.Core.Logic.{inl, inr}
 use mathlib.Core.List.{List, [], _∷_, _++_}
+use mathlib.Core.Bool.{Bool}
 use Prim.Native.Nat.{ℕ, zero, suc, _+_, _-_, _*_, _≤_, _<_, min, max}
 use native.Mathlib.Nat.{not-suc-le-zero, le-of-suc-le-suc, suc-sub-suc, sub-zero}
 use native.Mathlib.Omega.{arith}
@@ -10,7 +11,7 @@ use lib.Seq.{getD-drop, getD-append-add, take-all, take-length}
 use borrow.Author.Tests.{lt-ltb, le-ltb}
 use Rattle.memory.proofs.Cases.{split-lt, split-eq}
 use Rattle.media.specs.Geometry.{pageBytes}
-use Rattle.model.specs.ModelFile.{Entry, ModelFile, lay, posixWrite, posixTruncate, Becomes, afterWrite}
+use Rattle.model.specs.ModelFile.{Entry, ModelFile, lay, posixWrite, posixTruncate, Becomes, cachedAfter, cachedBy, afterWrite}
 use Rattle.model.specs.ModelFile.Entry.{written, truncated}
 use Rattle.model.specs.States.{redo, replay, CrashState}
 use Rattle.model.specs.Floor.{smallest}
@@ -88,6 +89,10 @@ logged-some n (b ∷ bytes) m h = refl
 pub replay-one-more : (boundary : ℕ) (file : List ℕ) (log : List Entry) (e : Entry) → replay boundary file (log ++ (e ∷ [])) ≡ redo boundary (replay boundary file log) e
 replay-one-more boundary file [] e = refl
 replay-one-more boundary file (x ∷ log) e = replay-one-more boundary (redo boundary file x) log e
+
+pub cached-one-more : (log : List Entry) (e : Entry) (p : ℕ) (before : Bool) → cachedBy (log ++ (e ∷ [])) p before ≡ cachedAfter e p (cachedBy log p before)
+cached-one-more [] e p before = refl
+cached-one-more (x ∷ log) e p before = cached-one-more log e p (cachedAfter x p before)
 
 -- a replay is as long as the smallest truncate
 length-redone : (boundary : ℕ) (file : List ℕ) (n : ℕ) (bytes : List ℕ) → length (redo boundary file (written n bytes)) ≡ length file

@@ -5,7 +5,7 @@ use mathlib.Core.List.{List}
 use Prim.Native.Nat.{ℕ, _/_, _≤_, _<_}
 use native.Mathlib.Omega.{arith}
 use lib.ListN.{length, getD, List·getD-eq-default}
-use borrow.Author.Tests.{ne-eqb}
+use borrow.Author.Tests.{ne-eqb, ltb-true}
 use Rattle.memory.proofs.Cases.{split-lt}
 use Rattle.media.specs.Geometry.{files, pageBytes, fileBytes}
 use Rattle.media.specs.Write.{Media, byteAt, sizeAt, applyAll}
@@ -122,6 +122,7 @@ module _ (P : ℕ) (d : Device) (m : Media) (l : Left P d m) where
           low = λ i h hi b. media-byte g hg i hi ∙ sym (current-byte g hg i hi);
           high = λ i h hi b. media-byte g hg i hi;
         };
+        cached = λ q h. absurd (omega (arith, none-cached g q, ltb-true (slotOf c g q) slotCount h));
       };
     }
 

@@ -74,6 +74,9 @@ ruled-out = (
   λ h. let x = h (write 0 0 (1 ∷ [])) (mounted 1) in not-done NO-ROOM refl (x .count, x .in-order),
   λ h. let x = h (sync 0 18) (mounted 1) in not-done (CUT 18) refl (x .count, x .in-order),
   λ h. stopped (h (blank 1 0) 0 refl (call (write 0 0 (1 ∷ 2 ∷ [])) ∷ []) .0 .1 refl),
+  λ h. false≢true
+      (h (blank 1 0) 0 refl (call (write 0 0 (1 ∷ [])) ∷ call (sync 0 18) ∷ call (mount 0) ∷ []) .1 .1 .0 .2 refl 0 0 (omega arith) refl),
+  λ h. false≢true (h (blank 1 0) 0 refl (call (write 0 0 (1 ∷ [])) ∷ call (mount 0) ∷ []) .1 .0 .2 refl 1 0 (omega arith) refl),
   λ h. apart 0 1 refl (at 0 _ _ (h (blank 1 0) 0 refl (call (write 0 0 (1 ∷ [])) ∷ call (read 0 0 (2 ∷ [])) ∷ []) .1 .0 .1 .2)),
   λ h. apart 2 1 refl (at 0 _ _ (h (blank 1 0) 0 refl (call (write 0 0 (1 ∷ [])) ∷ call (read 0 0 (2 ∷ [])) ∷ []) .1 .0 .1 .2)),
   λ h. apart 1 0 refl (at 0 _ _ (h (blank 1 0) 0 refl (call (write 0 0 (1 ∷ [])) ∷ call (look 0 0) ∷ []) .1 .0 .1 .2)),

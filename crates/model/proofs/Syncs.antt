@@ -18,7 +18,7 @@ use Rattle.cache.specs.Syncing.{syncPlan}
 use Rattle.cache.proofs.Sound.{Fit}
 use Rattle.cache.proofs.Admission.{Mountable}
 use Rattle.cache.proofs.Plan.{Own, all-take, own-other-byte, own-other-size}
-use Rattle.cache.proofs.Syncing.{sync-by, plan-own, Ready, CutAt, Stored, boundary, sync-cut, sync-done, syncedDevice, synced-logical, synced-floor, synced-floor-other, synced-byte-other, synced-size-other, synced-own, synced-other, synced-fit}
+use Rattle.cache.proofs.Syncing.{sync-by, plan-own, Ready, CutAt, Stored, boundary, sync-cut, sync-done, syncedDevice, synced-logical, synced-floor, synced-floor-other, synced-byte-other, synced-size-other, synced-own, synced-other, synced-cached, synced-fit}
 use Rattle.model.specs.ModelFile.{afterSync}
 use Rattle.model.specs.Run.{Files, change, feed}
 use Rattle.model.specs.Run.Call.{sync}
@@ -123,6 +123,7 @@ module _ (P : ℕ) (d : Device) (fs : Files) (f : ℕ) (inv : Invariant P d fs) 
     logical-is = synced-logical P d f r g;
     floor-is = synced-floor-other P d f r g ne;
     current-is = λ i hi. synced-other P d f r g i ne hg hi;
+    cached-was = λ q h. synced-cached P d f r g q h .0;
   }
 
   done-found : Found P e f (afterSync (fs f))
@@ -148,6 +149,7 @@ module _ (P : ℕ) (d : Device) (fs : Files) (f : ℕ) (inv : Invariant P d fs) 
           low = λ i l hi b. x .current-is i hi ∙ sym (current-stays i hi);
           high = λ i l hi b. x .current-is i hi ∙ sym (stored .byte i hi);
         };
+        cached = λ q h. absurd (synced-cached P d f r f q h .1 refl);
       }
 
   done-keeps : Invariant P e (change f afterSync fs)

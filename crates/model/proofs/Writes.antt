@@ -1,26 +1,31 @@
 -- A write keeps the invariant.
 use mathlib.Core.Path.{_≡_, refl, sym, _∙_}
-use mathlib.Core.Logic.{_≢_}
+use mathlib.Core.Logic.{_≢_, inl, inr}
+use mathlib.Core.Bool.{Bool, true, false, _||_}
 use mathlib.Core.List.{List}
-use Prim.Native.Nat.{ℕ, _+_, _-_, _≤_, _<_, min, max}
+use Prim.Native.Nat.{ℕ, suc, _*_, _+_, _-_, _≤_, _<_, min, max}
 use native.Mathlib.Omega.{arith}
 use lib.ListN.{length, getD, take, length-take}
 use lib.Seq.{getD-take, length-take-le}
-use borrow.Author.Tests.{leb-true, eq-eqb, ne-eqb}
+use borrow.Author.Tests.{lt-ltb, leb-true, eq-eqb, ne-eqb}
 use Rattle.memory.proofs.Cases.{split-lt, split-eq}
-use Rattle.media.specs.Geometry.{files}
+use Rattle.media.specs.Geometry.{files, pageBytes}
 use Rattle.cache.specs.Device.{Device, logicalAt, floorAt}
 use Rattle.cache.specs.Admission.{Result}
 use Rattle.cache.specs.Writing as Writing
 use Rattle.cache.proofs.Admission.{Mountable}
 use Rattle.cache.proofs.Writing.{write-by, Leaves, write-leaves}
-use Rattle.model.specs.ModelFile.{ModelFile, afterWrite}
+use Rattle.model.specs.ModelFile.{ModelFile, cachedBy, afterWrite}
 use Rattle.model.specs.ModelFile.Entry.{written}
 use Rattle.model.specs.Run.{Files, change, feed}
 use Rattle.model.specs.Run.Call.{write}
 use Rattle.model.specs.States.{redo, replay}
-use Rattle.model.proofs.ModelFile.{length-lay, lay-in, lay-before, lay-after, write-none, write-some, logged-none, logged-some, replay-one-more}
+use Rattle.model.proofs.ModelFile.{length-lay, lay-in, lay-before, lay-after, write-none, write-some, logged-none, logged-some, replay-one-more, cached-one-more}
 use Rattle.model.proofs.Invariant.{changed, Found, Mixed, Mounted, Invariant, SameStored, SameFile, same-found, same-mounted, mounted-found}
+
+or-true : (a b : Bool) → b ≡ true → a || b ≡ true
+or-true true b e = refl
+or-true false b e = e
 
 module _ (P : ℕ) (d c : Device) (f position n : ℕ) (bytes : List ℕ) (hf : f < files) (hn : n ≤ length bytes) (w : Leaves P f position n bytes d c) where
   same-stored : (g : ℕ) → SameStored P d c g
@@ -32,6 +37,7 @@ module _ (P : ℕ) (d c : Device) (f position n : ℕ) (bytes : List ℕ) (hf : 
     logical-is = w .logical-other g ne;
     floor-is = w .floor g;
     current-is = λ i hi. w .others g i ne;
+    cached-was = λ q h. elim (w .cached g q h) [ inl y ↦ y | inr y ↦ absurd (ne (y .0)) ];
   }
 
   -- nothing was put down
@@ -44,6 +50,7 @@ module _ (P : ℕ) (d c : Device) (f position n : ℕ) (bytes : List ℕ) (hf : 
         logical-is = rw (eq-eqb n 0 e) at (w .logical);
         floor-is = w .floor f;
         current-is = λ i hi. split-lt i position (λ l. w .below i l) (λ l. w .above i (omega arith));
+        cached-was = λ q h. elim (w .cached f q h) [ inl y ↦ y | inr y ↦ absurd (omega (arith, y .1)) ];
       }))
       (λ ne. other-file g ne)
 
@@ -115,6 +122,12 @@ module _ (P : ℕ) (d c : Device) (f position n : ℕ) (bytes : List ℕ) (hf : 
         mixed = λ boundary.
             rw (replay-one-more boundary (m .durable) (m .log) (written position put))
             (own-mixed (replay boundary (m .durable) (m .log)) boundary (x .mixed boundary));
+        cached = λ q h.
+            rw (cached-one-more (m .log) (written position put) q false)
+            (elim (w .cached f q h) [
+              | inl y ↦ rw (x .cached q y)
+              | inr y ↦ or-true (cachedBy (m .log) q false) _ (rw (lt-ltb position (pageBytes * suc q) (y .2), lt-ltb (pageBytes * q) (position + length put) (rw lp (y .3))))
+            ]);
       })
 
   -- all files

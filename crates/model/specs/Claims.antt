@@ -10,7 +10,7 @@ use Rattle.answer.specs.Coded.{Coded, done, NO-ROOM}
 use Rattle.answer.specs.Admission.{firstRefusal, ifDone}
 use Rattle.memory.specs.Bytes.{zeros, part, overwrite}
 use Rattle.media.specs.Geometry.{files, pageBytes}
-use Rattle.model.specs.ModelFile.{Becomes}
+use Rattle.model.specs.ModelFile.{Becomes, cachedBy}
 use Rattle.model.specs.Run.{Call, IsDone, Reply, Interface, World, Event, InEveryRun, AtMounts}
 use Rattle.model.specs.Run.Call.{read, look, write, truncate, sync, mount}
 use Rattle.model.specs.Run.Event.{call, powerLost}
@@ -111,8 +111,14 @@ module _ (I : Interface) where
       let r : Reply (I .State) = I .does (mount budget) (w .device) in
       IsDone (r .answer) → r .answer .count ≡ I .needed (mount budget) (w .device)
 
+  -- while mounted, a page is cached only where the log put it: none after a mount, and none of a file after its sync. So NO
+  -- ROOM, the stop of a write and the media writes of a sync come from the writes since then alone
+  abbrev pub CachedByLog : World I → Type 0
+  CachedByLog w =
+      I .isMounted (w .device) ≡ true → (f p : ℕ) → f < files → I .isCached (w .device) f p ≡ true → cachedBy (w .files f .log) p false ≡ true
+
   abbrev pub Served : World I → Event I → Type 0
-  Served w (call c) = Succeeds w c × AsPosix w c
+  Served w (call c) = Succeeds w c × AsPosix w c × CachedByLog w
   Served w (powerLost x) = Unit {0}
 
   -- DEMAND 2, in every run: from any device right after a mount that is done, through any list of calls and power losses

@@ -2,13 +2,13 @@
 use Prim.Native.Nat.{ℕ, _<_}
 use mathlib.Core.Path.{_≡_}
 use mathlib.Core.Logic.{_≢_}
-use mathlib.Core.List.{List, [], _∷_, _++_}
+use mathlib.Core.List.{[], _∷_, _++_}
 use lib.Dec.{leb}
 use lib.ListN.{length, take}
 use Rattle.answer.specs.Coded.{done, CUT}
 use Rattle.answer.specs.Admission.{test, firstRefusal}
 use Rattle.media.specs.Geometry.{files, fileBytes}
-use Rattle.media.specs.Write.{MediaWrite, byteAt, sizeAt, applyAll}
+use Rattle.media.specs.Write.{byteAt, sizeAt, applyAll}
 use Rattle.cache.specs.Device.{Device, deviceOf, downState}
 use Rattle.cache.specs.Admission.{Result, mediaShape}
 use Rattle.cache.specs.Mounting.{formatPlan, format}

@@ -12,10 +12,11 @@ use Rattle.media.specs.Geometry.{files, pageBytes, fileBytes, mediaBytes}
 use Rattle.media.specs.Write.{MediaWrite, mediaOf, sizeAt}
 use Rattle.media.specs.Write.MediaWrite.{page}
 use Rattle.cache.specs.declared.Slot.{Slot}
-use Rattle.cache.specs.Device.{Device, deviceOf, frameStart, freeWhere, logicalAt, withSlots, downState, mountedState}
+use Rattle.cache.specs.Device.{Device, deviceOf, frameStart, freeWhere, logicalAt, withSlots, withFloor, downState, mountedState}
 use Rattle.cache.specs.Admission.{Result, give, admit, mediaShape, sizesFit, fileTests}
 use Rattle.cache.specs.Truncating.{pagesFrom, clearTail, withSizes}
-use Rattle.cache.specs.Syncing.{trimWrites, pageWrites, sizeWrites, syncedState}
+use Rattle.cache.specs.Syncing.{trimWrites, pageWrites, sizeWrites, syncPlan, syncedState}
+use Rattle.cache.specs.Writing.{cachePage}
 use Rattle.cache.specs.Plan.{writeIf, underBudget}
 use Rattle.model.specs.Run.{Interface}
 use Rattle.model.specs.Claims.{Demand1, Demand2, Demand3}
@@ -150,6 +151,17 @@ spoils = withTruncate 1 (λ f n d. give RANGE (deviceOf (d .media) (d .frames) d
 abbrev pub cutMounted : Interface
 cutMounted = withSync 1 (λ f budget d. give (CUT budget) d)
 
+-- a sync that keeps the file's pages cached
+abbrev pub keepsPages : Interface
+keepsPages =
+    withSync 1 (λ f budget d. admit (fileTests 1 d f true) d (underBudget 1 budget (syncPlan 1 d f) (withFloor (d .cache) f (logicalAt d f)) d))
+
+-- a write that takes a slot for a page of another file
+abbrev pub hoards : Interface
+hoards =
+    withWrite 1 (λ f position bytes d.
+    let r : Result Device = storeCalls 1 .writing f position bytes d in ifDone (r .answer) (give (r .answer) (cachePage 1 (suc f) 0 (r .left))) r)
+
 -- a write that stores at once
 abbrev pub storesAtOnce : Interface
 storesAtOnce =
@@ -216,6 +228,8 @@ RuledOut =
     × (Demand1 neverRoom → ⊥)
     × (Demand1 alwaysCut → ⊥)
     × (Demand2 stopsEarly → ⊥)
+    × (Demand2 keepsPages → ⊥)
+    × (Demand2 hoards → ⊥)
     × (Demand2 constantRead → ⊥)
     × (Demand2 copiesNone → ⊥)
     × (Demand2 emptyLook → ⊥)

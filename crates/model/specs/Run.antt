@@ -40,6 +40,8 @@ pub record Interface : Type 1 where
   pub isMounted : State → Bool
   -- the page frames have their length; that the media has its lengths, a done mount shows
   pub isShaped : State → Bool
+  -- page p of file f is cached
+  pub isCached : State → ℕ → ℕ → Bool
   -- the greatest file size
   pub greatest : State → ℕ
   -- the refusals up to RANGE, in their order, with what each asks

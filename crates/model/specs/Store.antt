@@ -9,7 +9,7 @@ use Rattle.answer.specs.Admission.{Test, test}
 use Rattle.memory.specs.Bytes.{part}
 use Rattle.media.specs.Geometry.{fileBytes, fileStart}
 use Rattle.media.specs.Write.{MediaWrite, sizeAt, applyAll}
-use Rattle.cache.specs.Device.{Device, deviceOf, framesBytes, downState}
+use Rattle.cache.specs.Device.{Device, deviceOf, framesBytes, isCached, downState}
 use Rattle.cache.specs.Admission.{Result, give, mediaShape, sizesFit, fileTests}
 use Rattle.cache.specs.Reading as Reading
 use Rattle.cache.specs.Writing as Writing
@@ -102,6 +102,7 @@ storeWith P calls = record {
   onMedia = storeMedia P;
   isMounted = λ d. eqb (d .cache .mounted) 1;
   isShaped = λ d. eqb (length (d .frames)) framesBytes;
+  isCached = isCached;
   greatest = λ d. fileBytes P;
   conditions = storeConditions P;
   limits = storeLimits P;
