@@ -11,35 +11,14 @@ use Rattle.answer.specs.Admission.{test, firstRefusal}
 use Rattle.answer.proofs.Admission.{first-join}
 use Rattle.media.specs.Geometry.{files, fileBytes}
 use Rattle.media.specs.Write.{byteAt, sizeAt, applyAll}
-use Rattle.cache.specs.Device.{Device, deviceOf, downState}
-use Rattle.cache.specs.Admission.{Result, mediaShape}
+use Rattle.cache.specs.Device.{deviceOf, downState}
+use Rattle.cache.specs.Admission.{mediaShape}
 use Rattle.cache.specs.Mounting.{formatPlan, format}
 use Rattle.cache.proofs.Admission.{admit-answer}
 use Rattle.cache.proofs.Plan.{budget-answer}
 use Rattle.cache.proofs.Mounting.{format-by, format-done}
 use Rattle.model.specs.Run.{IsDone}
 use Rattle.model.specs.Format.{Format}
-
-module _ (P budget : ℕ) (d : Device) where
-  -- but for the order
-  record Left (r : Result Device) : Type 0 where
-    pub unchanged : r .answer .number ≢ 0 → r .answer .number ≢ 9 → r .left ≡ d
-    pub cut : r .answer .number ≡ 9 → r .left ≡ deviceOf (applyAll P (d .media) (take budget (formatPlan P (d .media)))) (d .frames) downState
-    pub empty : IsDone (r .answer) → (f : ℕ) → f < files
-        → (sizeAt (r .left .media) f ≡ 0) × ((i : ℕ) → i < fileBytes P → byteAt P (r .left .media) f i ≡ 0)
-    pub down : IsDone (r .answer) → r .left .cache ≡ downState
-
-  left : Left (format P budget d)
-  left =
-      format-by P budget d Left
-      (λ k lo hi. record { unchanged = λ _ _. refl; cut = λ z. absurd (hi z); empty = λ z. absurd (omega arith); down = λ z. absurd (omega arith) })
-      (λ l. record { unchanged = λ _ z. absurd (z refl); cut = λ _. refl; empty = λ z. absurd (omega arith); down = λ z. absurd (omega arith) })
-      (λ l lb ls. record {
-        unchanged = λ z _. absurd (z refl);
-        cut = λ z. absurd (omega arith);
-        empty = λ _ f hf. format-done P (d .media) lb ls f hf;
-        down = λ _. refl;
-      })
 
 pub format-claim : (P : ℕ) → Format P
 unfolding format
@@ -48,8 +27,18 @@ format-claim P budget d = record {
       admit-answer d (mediaShape P d) _
       ∙ ap (firstRefusal (mediaShape P d)) (budget-answer P budget (formatPlan P (d .media)) downState d)
       ∙ sym (first-join (mediaShape P d) (test (leb (length (formatPlan P (d .media))) budget) (CUT budget) ∷ []) (done (length (formatPlan P (d .media)))));
-  unchanged = left P budget d .unchanged;
-  cut = left P budget d .cut;
-  empty = left P budget d .empty;
-  down = left P budget d .down;
+  unchanged =
+      format-by P budget d (λ r. r .answer .number ≢ 0 → r .answer .number ≢ 9 → r .left ≡ d)
+      (λ k lo hi _ _. refl) (λ l _ z. absurd (z refl)) (λ l lb ls z _. absurd (z refl));
+  cut =
+      format-by P budget d
+      (λ r. r .answer .number ≡ 9 → r .left ≡ deviceOf (applyAll P (d .media) (take budget (formatPlan P (d .media)))) (d .frames) downState)
+      (λ k lo hi z. absurd (hi z)) (λ l z. refl) (λ l lb ls z. absurd (omega arith));
+  empty =
+      format-by P budget d
+      (λ r. IsDone (r .answer) → (f : ℕ) → f < files → (sizeAt (r .left .media) f ≡ 0) × ((i : ℕ) → i < fileBytes P → byteAt P (r .left .media) f i ≡ 0))
+      (λ k lo hi z. absurd (omega arith)) (λ l z. absurd (omega arith)) (λ l lb ls z f hf. format-done P (d .media) lb ls f hf);
+  down =
+      format-by P budget d (λ r. IsDone (r .answer) → r .left .cache ≡ downState)
+      (λ k lo hi z. absurd (omega arith)) (λ l z. absurd (omega arith)) (λ l lb ls z. refl);
 }
