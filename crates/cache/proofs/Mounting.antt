@@ -243,15 +243,15 @@ module _ (P : ℕ) where
       kept = t .kept;
     }
 
-    pub mount-cut : (k : ℕ) → Left d (applyAll P (d .media) (take k (mountPlan P (d .media))))
-    unfolding mountPlan
-    mount-cut k = left _ (trims-cut (d .media) _ (sizeAt (d .media)) (x .fit) mount-ordered (x .bytes) (x .sizes) k)
-
     pub mount-done : Left d (applyAll P (d .media) (mountPlan P (d .media))) × Clean d (applyAll P (d .media) (mountPlan P (d .media)))
     unfolding mountPlan
     mount-done =
         let t = trims-done (d .media) _ (sizeAt (d .media)) (x .fit) mount-ordered (x .bytes) (x .sizes) in
         (left _ (t .0), record { zero-past = t .1 .clean })
+
+    pub mount-cut : (k : ℕ) → Left d (applyAll P (d .media) (take k (mountPlan P (d .media))))
+    unfolding mountPlan
+    mount-cut k = left _ (trims-cut (d .media) _ (sizeAt (d .media)) (x .fit) mount-ordered (x .bytes) (x .sizes) k)
 
     pub mount-own : All (InLimits P) (mountPlan P (d .media))
     unfolding mountPlan

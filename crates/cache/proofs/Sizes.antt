@@ -10,10 +10,6 @@ use Rattle.cache.specs.Sizes.{orderTests, inOrder, truncatedSizes, sizes
 use Rattle.cache.proofs.Scan.{allOf-at}
 
 module _ (greatest : ℕ) where
-  pub order-true : (s : FileSizes) → s .floor ≤ s .logical → s .logical ≤ greatest → s .floor ≤ s .stored → inOrder greatest s ≡ true
-  unfolding inOrder
-  order-true s a b c = rw (le-leb _ _ a, le-leb _ _ b, le-leb _ _ c)
-
   pub order-is : (s : FileSizes) → inOrder greatest s ≡ true → (s .floor ≤ s .logical) × (s .logical ≤ greatest) × (s .floor ≤ s .stored)
   unfolding inOrder
   order-is s e = (
@@ -21,6 +17,10 @@ module _ (greatest : ℕ) where
     leb-true _ _ (allOf-at (orderTests greatest s) e 1),
     leb-true _ _ (allOf-at (orderTests greatest s) e 2),
   )
+
+  pub order-true : (s : FileSizes) → s .floor ≤ s .logical → s .logical ≤ greatest → s .floor ≤ s .stored → inOrder greatest s ≡ true
+  unfolding inOrder
+  order-true s a b c = rw (le-leb _ _ a, le-leb _ _ b, le-leb _ _ c)
 
   -- the rule keeps the order
   pub truncated-order : (n : ℕ) (s : FileSizes) → n ≤ greatest → inOrder greatest s ≡ true → inOrder greatest (truncatedSizes n s) ≡ true

@@ -55,22 +55,6 @@ module _ (P : ℕ) where
   free-at (suc n) zero = refl
   free-at (suc n) (suc k) = free-at n k
 
-  -- a mounted device with these facts is sound
-  pub fit-sound : (d : Device) → Fit d → d .cache .mounted ≡ 1 → isSound P (d .media .sizes) (d .cache) ≡ true
-  unfolding isSound soundTests holdsAlone
-  fit-sound d x up =
-      let named : every (inRange P) (d .cache .slots) ≡ true =
-      every-all (inRange P) (d .cache .slots) freeSlot (λ k h. x .slots .named k (rw (x .slots .count) at h)) in
-      let alone : everyBelow slotCount (holdsAlone (d .cache .slots)) ≡ true =
-      everyBelow-all slotCount (holdsAlone (d .cache .slots)) (λ k h.
-      cases (getD (d .cache .slots) k freeSlot .used)
-      (λ u. rw (u, eq-eqb _ _ (x .slots .alone k (getD (d .cache .slots) k freeSlot) refl h u)))
-      (λ u. rw u)) in
-      let order : everyBelow files (λ f. inOrder (fileBytes P) (sizesOf d f)) ≡ true =
-      everyBelow-all files (λ f. inOrder (fileBytes P) (sizesOf d f)) (λ f h.
-      order-true (fileBytes P) (sizesOf d f) (x .sizes .floor-logical f h) (x .sizes .logical-fits f h) (x .sizes .floor-stored f h)) in
-      rw (up, named, alone, order)
-
   -- a sound device has these facts, where its lists are as long as the code's arrays
   pub sound-fit : (d : Device) → isSound P (d .media .sizes) (d .cache) ≡ true → length (d .media .bytes) ≡ mediaBytes P → length (d .media .sizes) ≡ files
       → every (λ n. leb n (fileBytes P)) (d .media .sizes) ≡ true → length (d .cache .slots) ≡ slotCount
@@ -97,6 +81,22 @@ module _ (P : ℕ) where
           stored-fits = λ f h. leb-true _ _ (every-at (λ n. leb n (fileBytes P)) (d .media .sizes) 0 fit f (rw ls h));
         };
       }
+
+  -- a mounted device with these facts is sound
+  pub fit-sound : (d : Device) → Fit d → d .cache .mounted ≡ 1 → isSound P (d .media .sizes) (d .cache) ≡ true
+  unfolding isSound soundTests holdsAlone
+  fit-sound d x up =
+      let named : every (inRange P) (d .cache .slots) ≡ true =
+      every-all (inRange P) (d .cache .slots) freeSlot (λ k h. x .slots .named k (rw (x .slots .count) at h)) in
+      let alone : everyBelow slotCount (holdsAlone (d .cache .slots)) ≡ true =
+      everyBelow-all slotCount (holdsAlone (d .cache .slots)) (λ k h.
+      cases (getD (d .cache .slots) k freeSlot .used)
+      (λ u. rw (u, eq-eqb _ _ (x .slots .alone k (getD (d .cache .slots) k freeSlot) refl h u)))
+      (λ u. rw u)) in
+      let order : everyBelow files (λ f. inOrder (fileBytes P) (sizesOf d f)) ≡ true =
+      everyBelow-all files (λ f. inOrder (fileBytes P) (sizesOf d f)) (λ f h.
+      order-true (fileBytes P) (sizesOf d f) (x .sizes .floor-logical f h) (x .sizes .logical-fits f h) (x .sizes .floor-stored f h)) in
+      rw (up, named, alone, order)
 
   -- the up mark is 0 or 1
   pub sound-mark : (stored : List ℕ) (s : CacheState) → isSound P stored s ≡ true → s .mounted ≤ 1

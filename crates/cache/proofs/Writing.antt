@@ -74,13 +74,8 @@ module _ (P f : ℕ) where
   puts-same zero position bytes d = same-refl d
   puts-same (suc n) position [] d = same-refl d
   puts-same (suc n) position (b ∷ bs) d =
-      let p : ℕ = position / pageBytes in
-      let offset : ℕ = position % pageBytes in
-      let m : ℕ = pageBytes - position % pageBytes in
       cases (hasSlot d f (position / pageBytes))
-      (λ e. rw e
-      (same-trans (put-same p offset (take m (b ∷ bs)) d)
-      (puts-same n (pageBytes * suc p) (drop m (b ∷ bs)) (putPage P f p offset (take m (b ∷ bs)) d))))
+      (λ e. rw e (same-trans (put-same (position / pageBytes) (position % pageBytes) _ d) (puts-same n _ _ _)))
       (λ e. rw e (same-refl d))
 
 -- ---- the cases of a write

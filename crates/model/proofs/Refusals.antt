@@ -11,9 +11,7 @@ use lib.Seq.{take-all}
 use borrow.Author.Tests.{ne-eqb}
 use Rattle.answer.specs.Coded.{refused, done, NO-ROOM, CUT}
 use Rattle.answer.specs.Admission.{test, firstRefusal}
-use Rattle.memory.specs.Bytes.{part}
-use Rattle.media.specs.Geometry.{fileBytes, fileStart}
-use Rattle.media.specs.Write.{Media, sizeAt}
+use Rattle.media.specs.Geometry.{fileBytes}
 use Rattle.cache.specs.Device.{Device, framesBytes}
 use Rattle.cache.specs.Admission.{mediaShape, framesShape, sizesFit, stateTests, fileTests}
 use Rattle.cache.specs.Reading as Reading
@@ -147,7 +145,7 @@ module _ (P : ℕ) where
     in-order = ordered c d .1;
     unchanged = leaves c d .unchanged;
     cut = leaves c d .cut;
-    stored = λ z f. ap (λ (m : Media). part (m .bytes) (fileStart P f) (sizeAt m f)) (media-paid c d z);
+    stored = λ z f. rw (media-paid c d z);
     mounted = mounted-after c d;
     shaped = ap (λ (k : ℕ). eqb k framesBytes) (frames-kept c d);
     limited = refl;

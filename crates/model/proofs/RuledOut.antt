@@ -8,7 +8,7 @@ use native.Mathlib.Omega.{arith}
 use lib.Dec.{eqb}
 use borrow.Author.Tests.{eqb-false}
 use lib.ListN.{length, getD, set, replicate}
-use Rattle.answer.specs.Coded.{Coded, done, DOWN, NO-ROOM, CUT}
+use Rattle.answer.specs.Coded.{Coded, done, BOOKS, DOWN, NO-ROOM, CUT}
 use Rattle.memory.specs.Bytes.{zeros}
 use Rattle.media.specs.Geometry.{files, mediaBytes, fileStart}
 use Rattle.media.specs.Write.{mediaOf}
@@ -74,6 +74,8 @@ ruled-out = (
   λ h. let x = h (write 0 0 (1 ∷ [])) (mounted 1) in not-done NO-ROOM refl (x .count, x .in-order),
   λ h. let x = h (sync 0 18) (mounted 1) in not-done (CUT 18) refl (x .count, x .in-order),
   λ h. stopped (h (blank 1 0) 0 refl (call (write 0 0 (1 ∷ 2 ∷ [])) ∷ []) .0 .1 refl),
+  λ h. not-done BOOKS refl
+      (h (blank 1 0) 0 refl (call (write 0 0 (1 ∷ [])) ∷ call (read 0 0 []) ∷ []) .1 .0 .0 ((refl, refl, omega arith), omega arith)),
   λ h. false≢true
       (h (blank 1 0) 0 refl (call (write 0 0 (1 ∷ [])) ∷ call (sync 0 18) ∷ call (mount 0) ∷ []) .1 .1 .0 .2 refl 0 0 (omega arith) refl),
   λ h. false≢true (h (blank 1 0) 0 refl (call (write 0 0 (1 ∷ [])) ∷ call (mount 0) ∷ []) .1 .0 .2 refl 1 0 (omega arith) refl),

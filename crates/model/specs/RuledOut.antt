@@ -151,6 +151,13 @@ spoils = withTruncate 1 (λ f n d. give RANGE (deviceOf (d .media) (d .frames) d
 abbrev pub cutMounted : Interface
 cutMounted = withSync 1 (λ f budget d. give (CUT budget) d)
 
+-- a write that leaves a cache state that is not sound
+abbrev pub breaksState : Interface
+breaksState =
+    withWrite 1 (λ f position bytes d.
+    let r : Result Device = storeCalls 1 .writing f position bytes d in
+    ifDone (r .answer) (give (r .answer) (deviceOf (r .left .media) (r .left .frames) (withFloor (r .left .cache) f (fileBytes 1)))) r)
+
 -- a sync that keeps the file's pages cached
 abbrev pub keepsPages : Interface
 keepsPages =
@@ -228,6 +235,7 @@ RuledOut =
     × (Demand1 neverRoom → ⊥)
     × (Demand1 alwaysCut → ⊥)
     × (Demand2 stopsEarly → ⊥)
+    × (Demand2 breaksState → ⊥)
     × (Demand2 keepsPages → ⊥)
     × (Demand2 hoards → ⊥)
     × (Demand2 constantRead → ⊥)
