@@ -9,8 +9,10 @@ use lib.ListN.{getD}
 use borrow.Author.Tests.{eq-eqb}
 use borrow.Table.Steps.{cases}
 use Rattle.answer.specs.declared.Refusal.{Refusal}
-use Rattle.answer.specs.Coded.{Coded, refused, LINE, codedRefusal}
-use Rattle.answer.proofs.Coded.{refusal-number}
+use Rattle.answer.specs.declared.Answer.{Answer}
+use Rattle.answer.specs.declared.Answer.the-variants.{Done, Refused}
+use Rattle.answer.specs.Coded.{Coded, coded, done, refused, LINE, codedRefusal}
+use Rattle.answer.proofs.Coded.{refusal-number, coded-of}
 use Rattle.answer.specs.Admission.{Test, test, firstRefusal, ifDone}
 
 -- a refusal leaves things as they were
@@ -47,6 +49,10 @@ pub passed-rest : (ts us : List Test) → passed (ts ++ us) ≡ true → passed 
 passed-rest [] us e = e
 passed-rest (t ∷ ts) us e = passed-rest ts us (passed-tail t (ts ++ us) e)
 
+pub passed-join : (ts us : List Test) → passed ts ≡ true → passed us ≡ true → passed (ts ++ us) ≡ true
+passed-join [] us h k = k
+passed-join (t ∷ ts) us h k = rw (passed-head t ts h) (passed-join ts us (passed-tail t ts h) k)
+
 pub first-all : (ts : List Test) (a : Coded) → passed ts ≡ true → firstRefusal ts a ≡ a
 first-all [] a e = refl
 first-all (t ∷ ts) a e = rw (passed-head t ts e) (first-all ts a (passed-tail t ts e))
@@ -82,7 +88,7 @@ refusing-rest true x e = absurd (false≢true e)
 refusing-rest false x e = e
 
 -- where the answer is done, every test held
-done-passed : (ts : List Test) (a : Coded) → refusing ts ≡ true → (firstRefusal ts a) .number ≡ 0 → passed ts ≡ true
+pub done-passed : (ts : List Test) (a : Coded) → refusing ts ≡ true → (firstRefusal ts a) .number ≡ 0 → passed ts ≡ true
 done-passed [] a h e = refl
 done-passed (t ∷ ts) a h e =
     cases (t .holds)
@@ -101,3 +107,11 @@ pub first-refused : (ts us : List Test) (a b : Coded) (r : Refusal) → a .numbe
 first-refused [] us a b r h e = absurd (false≢true (sym (refusal-number r) ∙ eq-eqb _ _ (ap (λ (k : Coded). k .number) e ∙ h)))
 first-refused (t ∷ ts) us a b r h e =
     cases (t .holds) (λ q. rw q (first-refused ts us a b r h (rw q at e))) (λ q. rw q (rw q at e))
+
+-- the answer of code that has made the first tests: a refusal stands, and where it is done the rest decides
+module _ (ts us : List Test) (a : Answer) (e : coded a ≡ firstRefusal ts (done 0)) where
+  pub then-refused : (r : Refusal) → a ≡ Refused r → codedRefusal r ≡ firstRefusal (ts ++ us) (done 0)
+  then-refused r q = first-refused ts us (done 0) (done 0) r refl (coded-of a (Refused r) _ q e)
+
+  pub then-rest : refusing ts ≡ true → (n : ℕ) → a ≡ Done n → firstRefusal us (done 0) ≡ firstRefusal (ts ++ us) (done 0)
+  then-rest h n q = sym (first-passed ts us (done 0) (done 0) h (ap (λ (c : Coded). c .number) (sym (coded-of a (Done n) _ q e))))

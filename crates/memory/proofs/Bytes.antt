@@ -106,3 +106,13 @@ pub put-zeros : (a e : ℕ) (xs ys : List ℕ) → ys ≡ zeros (length (part xs
 put-zeros a e xs ys h k l =
     let q : ys ≡ zeros (e - a) = h ∙ ap zeros (length-part xs a (e - a) (omega arith)) in
     rw q (put-back a e xs (zeros (e - a)) (length-replicate (e - a) 0) k l)
+
+-- the part was copied over
+pub put-copy : (a e : ℕ) (xs ys zs : List ℕ) → ys ≡ overwrite (part xs a (e - a)) 0 zs → length zs ≡ e - a → a ≤ e → e ≤ length xs
+    → putMid a (e - a) xs ys ≡ overwrite xs a zs
+put-copy a e xs ys zs h l k m =
+    let q : ys ≡ zs = h ∙ overwrite-whole (part xs a (e - a)) zs (l ∙ sym (length-part xs a (e - a) (omega arith))) in
+    rw q (put-back a e xs zs l k m)
+
+pub length-put : (a e : ℕ) (xs ys : List ℕ) → length ys ≡ e - a → a ≤ e → e ≤ length xs → length (putMid a (e - a) xs ys) ≡ length xs
+length-put a e xs ys l k m = rw (put-back a e xs ys l k m) (length-overwrite xs a ys)

@@ -1,6 +1,5 @@
 // Block moves on byte slices of any lengths.
 ghost use mathlib.Core.Path.{_≡_};
-ghost use Prim.Native.Nat.{min};
 ghost use lib.ListN.{length};
 ghost use Rattle.memory.specs.Bytes.{zeros, overwrite};
 
@@ -8,7 +7,7 @@ ghost use Rattle.memory.specs.Bytes.{zeros, overwrite};
 pub fn copy(dst: &mut [u8], src: &[u8])
     ensures { λ r. ⌜ now (dst .exit) ≡ overwrite (now (dst .entry)) 0 (now (src .entry)) ⌝ }
 {
-    let n = shorter(dst.len(), src.len());
+    let n = number::min(dst.len(), src.len());
     let mut i = 0;
     while i < n {
         dst[i] = src[i];
@@ -25,10 +24,4 @@ pub fn clear(dst: &mut [u8])
         dst[i] = 0;
         i += 1;
     }
-}
-
-fn shorter(a: usize, b: usize) -> usize
-    ensures { λ r. ⌜ r ≡ min a b ⌝ }
-{
-    if a < b { a } else { b }
 }

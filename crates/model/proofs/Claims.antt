@@ -7,7 +7,7 @@ use borrow.Author.Tests.{eqb-true}
 use borrow.Table.Steps.{cases}
 use Rattle.answer.specs.Coded.{Coded}
 use Rattle.answer.specs.Admission.{ifDone}
-use Rattle.cache.specs.Device.{Device}
+use Rattle.device.specs.Device.{Device}
 use Rattle.model.specs.ModelFile.{Becomes}
 use Rattle.model.specs.Run.{IsDone, World, Event, step, start, InEveryRun, AtMounts}
 use Rattle.model.specs.Run.Call.{read, look, write, truncate, sync, mount}

@@ -11,12 +11,12 @@ use Rattle.answer.specs.Admission.{test, firstRefusal}
 use Rattle.answer.proofs.Admission.{first-join}
 use Rattle.media.specs.Geometry.{files, fileBytes}
 use Rattle.media.specs.Write.{byteAt, sizeAt, applyAll}
-use Rattle.cache.specs.Device.{deviceOf, downState}
-use Rattle.cache.specs.Admission.{mediaShape}
-use Rattle.cache.specs.Mounting.{formatPlan, format}
-use Rattle.cache.proofs.Admission.{admit-answer}
-use Rattle.cache.proofs.Plan.{budget-answer}
-use Rattle.cache.proofs.Mounting.{format-by, format-done}
+use Rattle.device.specs.Device.{deviceOf, downState}
+use Rattle.device.specs.Admission.{mediaShape}
+use Rattle.device.specs.Mounting.{formatPlan, format}
+use Rattle.device.proofs.Admission.{admit-answer}
+use Rattle.device.proofs.Plan.{budget-answer}
+use Rattle.device.proofs.Mounting.{format-by, format-done}
 use Rattle.model.specs.Run.{IsDone}
 use Rattle.model.specs.Format.{Format}
 
@@ -24,9 +24,9 @@ pub format-claim : (P : ℕ) → Format P
 unfolding format
 format-claim P budget d = record {
   in-order =
-      admit-answer d (mediaShape P d) _
-      ∙ ap (firstRefusal (mediaShape P d)) (budget-answer P budget (formatPlan P (d .media)) downState d)
-      ∙ sym (first-join (mediaShape P d) (test (leb (length (formatPlan P (d .media))) budget) (CUT budget) ∷ []) (done (length (formatPlan P (d .media)))));
+      admit-answer d (mediaShape P (d .media)) _
+      ∙ ap (firstRefusal (mediaShape P (d .media))) (budget-answer P budget (formatPlan P (d .media)) downState d)
+      ∙ sym (first-join (mediaShape P (d .media)) (test (leb (length (formatPlan P (d .media))) budget) (CUT budget) ∷ []) (done (length (formatPlan P (d .media)))));
   unchanged =
       format-by P budget d (λ r. r .answer .number ≢ 0 → r .answer .number ≢ 9 → r .left ≡ d)
       (λ k lo hi _ _. refl) (λ l _ z. absurd (z refl)) (λ l lb ls z _. absurd (z refl));

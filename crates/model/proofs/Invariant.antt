@@ -3,7 +3,7 @@ use mathlib.Core.Path.{_≡_, refl, sym, _∙_, subst}
 use mathlib.Core.Logic.{_≢_, inl}
 use mathlib.Core.Bool.{true, false}
 use mathlib.Core.List.{List}
-use Prim.Native.Nat.{ℕ, _-_, _≤_, _<_}
+use Prim.Native.Nat.{ℕ, _≤_, _<_}
 use native.Mathlib.Omega.{arith}
 use lib.ListN.{length, getD}
 use lib.Seq.{ext-getD}
@@ -13,10 +13,10 @@ use Rattle.memory.proofs.Bytes.{length-part, getD-part}
 use Rattle.media.specs.Geometry.{files, fileBytes, mediaBytes, fileStart}
 use Rattle.media.specs.Write.{byteAt, sizeAt}
 use Rattle.media.proofs.Geometry.{file-end}
-use Rattle.cache.specs.Device.{Device, isCached, logicalAt, floorAt}
-use Rattle.cache.specs.Current.{currentAt}
-use Rattle.cache.proofs.Sound.{Fit}
-use Rattle.cache.proofs.Admission.{Mountable}
+use Rattle.device.specs.Device.{Device, isCached, logicalAt, floorAt}
+use Rattle.device.specs.Current.{currentAt}
+use Rattle.device.proofs.Sound.{Fit}
+use Rattle.device.proofs.Admission.{Mountable}
 use Rattle.model.specs.ModelFile.{ModelFile, cachedBy}
 use Rattle.model.specs.Run.{Files, change}
 use Rattle.model.specs.States.{replay, CrashState}

@@ -9,14 +9,14 @@ use borrow.Author.Tests.{ne-eqb, ltb-true}
 use Rattle.memory.proofs.Cases.{split-lt}
 use Rattle.media.specs.Geometry.{files, pageBytes, fileBytes}
 use Rattle.media.specs.Write.{Media, byteAt, sizeAt, applyAll}
-use Rattle.cache.specs.Device.{Device, deviceOf, slotCount, slotOf, downState, mountedState}
-use Rattle.cache.specs.Current.{currentAt}
-use Rattle.cache.specs.Admission.{Result}
-use Rattle.cache.specs.Mounting as Mounting
-use Rattle.cache.proofs.Current.{current-media, current-zero}
-use Rattle.cache.proofs.Sound.{Fit, none-fit}
-use Rattle.cache.proofs.Admission.{Mountable}
-use Rattle.cache.proofs.Mounting.{Left, Clean, mount-by}
+use Rattle.device.specs.Device.{Device, deviceOf, slotCount, slotOf, downState, mountedState}
+use Rattle.device.specs.Current.{currentAt}
+use Rattle.device.specs.Admission.{Result}
+use Rattle.device.specs.Mounting as Mounting
+use Rattle.device.proofs.Current.{current-media, current-zero}
+use Rattle.device.proofs.Sound.{Fit, none-fit}
+use Rattle.device.proofs.Admission.{Mountable}
+use Rattle.device.proofs.Mounting.{Left, Clean, mount-by}
 use Rattle.model.specs.ModelFile.{ModelFile, fresh}
 use Rattle.model.specs.Run.{IsDone, Files, feed}
 use Rattle.model.specs.Run.Call.{mount}

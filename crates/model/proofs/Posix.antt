@@ -15,26 +15,26 @@ use Rattle.memory.specs.Bytes.{zeros, part, overwrite}
 use Rattle.memory.proofs.Cases.{split-lt, split-eq}
 use Rattle.memory.proofs.Bytes.{getD-zeros, length-part, getD-part}
 use Rattle.media.specs.Geometry.{files, pageBytes, fileBytes}
-use Rattle.cache.specs.Device.{Device, framesBytes, logicalAt}
-use Rattle.cache.specs.Current.{currentAt, currentBytes}
-use Rattle.cache.specs.Admission.{Result, fileTests, mediaShape, sizesFit}
-use Rattle.cache.specs.Reading.{readCount, read}
-use Rattle.cache.specs.Writing.{putPages, hasRoom, write}
-use Rattle.cache.specs.Truncating.{truncate}
-use Rattle.cache.specs.Syncing.{syncPlan, syncedState, sync}
-use Rattle.cache.specs.Mounting.{mountPlan, mount}
-use Rattle.cache.specs.Looking.{toPageEnd, lookCount, lookedAt, look}
-use Rattle.cache.proofs.Current.{length-current, current-at}
-use Rattle.cache.proofs.Sound.{Fit}
+use Rattle.device.specs.Device.{Device, framesBytes, logicalAt}
+use Rattle.device.specs.Current.{currentAt, currentBytes}
+use Rattle.device.specs.Admission.{Result, fileTests, mountTests}
+use Rattle.device.specs.Reading.{readCount, read}
+use Rattle.device.specs.Writing.{putPages, hasRoom, write}
+use Rattle.device.specs.Truncating.{truncate}
+use Rattle.device.specs.Syncing.{syncPlan, syncedState, sync}
+use Rattle.device.specs.Mounting.{mountPlan, mount}
+use Rattle.device.specs.Looking.{toPageEnd, lookCount, lookedAt, look}
+use Rattle.device.proofs.Current.{length-current, current-at}
+use Rattle.device.proofs.Sound.{Fit}
 use Rattle.answer.proofs.Admission.{passed, first-all, first-join}
-use Rattle.cache.proofs.Admission.{admit-answer, file-passes, mount-passes}
-use Rattle.cache.proofs.Reading.{read-by}
-use Rattle.cache.proofs.Writing.{write-by, write-stops, write-some, grown-room}
-use Rattle.cache.proofs.Plan.{budget-answer}
-use Rattle.cache.proofs.Syncing.{sync-by, syncedDevice, sync-done, synced-fit}
-use Rattle.cache.proofs.Truncating.{truncate-by}
-use Rattle.cache.proofs.Mounting.{mount-by}
-use Rattle.cache.proofs.Looking.{look-by, looked-most, looked-current, looked-rest}
+use Rattle.device.proofs.Admission.{admit-answer, file-passes, mount-passes}
+use Rattle.device.proofs.Reading.{read-by}
+use Rattle.device.proofs.Writing.{write-by, write-stops, write-some, grown-room}
+use Rattle.device.proofs.Plan.{budget-answer}
+use Rattle.device.proofs.Syncing.{sync-by, syncedDevice, sync-done, synced-fit}
+use Rattle.device.proofs.Truncating.{truncate-by}
+use Rattle.device.proofs.Mounting.{mount-by}
+use Rattle.device.proofs.Looking.{look-by, looked-most, looked-current, looked-rest}
 use Rattle.model.specs.Run.{IsDone, Files}
 use Rattle.model.specs.Store.{storeMedia}
 use Rattle.model.proofs.Invariant.{Mounted, Invariant, on-media-is}
@@ -81,7 +81,7 @@ module _ (P : ℕ) (d : Device) (fs : Files) (inv : Invariant P d fs) where
       _,
       admit-answer d (fileTests P d f true) _
           ∙ first-all (fileTests P d f true) _ (passes true refl)
-          ∙ budget-answer P budget (syncPlan P d f) (syncedState d f) d,
+          ∙ budget-answer P budget (syncPlan P d f) (syncedState (d .cache) f) d,
     )
 
   pub mount-succeeds : (budget : ℕ)
@@ -89,8 +89,8 @@ module _ (P : ℕ) (d : Device) (fs : Files) (inv : Invariant P d fs) where
   unfolding mount
   mount-succeeds budget = (
     _,
-    admit-answer d (mediaShape P d ++ sizesFit P d) _
-        ∙ first-all (mediaShape P d ++ sizesFit P d) _ (mount-passes P d (inv .mountable))
+    admit-answer d (mountTests P (d .media)) _
+        ∙ first-all (mountTests P (d .media)) _ (mount-passes P d (inv .mountable))
         ∙ budget-answer P budget (mountPlan P (d .media)) _ d,
   )
 

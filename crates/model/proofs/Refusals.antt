@@ -12,22 +12,22 @@ use borrow.Author.Tests.{ne-eqb}
 use Rattle.answer.specs.Coded.{refused, done, NO-ROOM, CUT}
 use Rattle.answer.specs.Admission.{test, firstRefusal}
 use Rattle.media.specs.Geometry.{fileBytes}
-use Rattle.cache.specs.Device.{Device, framesBytes}
-use Rattle.cache.specs.Admission.{mediaShape, framesShape, sizesFit, stateTests, fileTests}
-use Rattle.cache.specs.Reading as Reading
-use Rattle.cache.specs.Writing as Writing
-use Rattle.cache.specs.Truncating as Truncating
-use Rattle.cache.specs.Syncing as Syncing
-use Rattle.cache.specs.Mounting as Mounting
-use Rattle.cache.specs.Looking as Looking
-use Rattle.cache.proofs.Admission.{admit-answer}
-use Rattle.cache.proofs.Plan.{budget-answer}
-use Rattle.cache.proofs.Reading.{read-by}
-use Rattle.cache.proofs.Writing.{write-by, write-kept}
-use Rattle.cache.proofs.Truncating.{truncate-by, truncate-kept}
-use Rattle.cache.proofs.Looking.{look-by}
-use Rattle.cache.proofs.Syncing.{sync-by, sync-frames}
-use Rattle.cache.proofs.Mounting.{mount-by}
+use Rattle.device.specs.Device.{Device, framesBytes}
+use Rattle.device.specs.Admission.{mediaShape, framesShape, sizesFit, stateTests, fileTests, mountTests}
+use Rattle.device.specs.Reading as Reading
+use Rattle.device.specs.Writing as Writing
+use Rattle.device.specs.Truncating as Truncating
+use Rattle.device.specs.Syncing as Syncing
+use Rattle.device.specs.Mounting as Mounting
+use Rattle.device.specs.Looking as Looking
+use Rattle.device.proofs.Admission.{admit-answer}
+use Rattle.device.proofs.Plan.{budget-answer}
+use Rattle.device.proofs.Reading.{read-by}
+use Rattle.device.proofs.Writing.{write-by, write-kept}
+use Rattle.device.proofs.Truncating.{truncate-by, truncate-kept}
+use Rattle.device.proofs.Looking.{look-by}
+use Rattle.device.proofs.Syncing.{sync-by, sync-frames}
+use Rattle.device.proofs.Mounting.{mount-by}
 use Rattle.model.specs.Run.{Call, IsDone, Reply}
 use Rattle.model.specs.Run.Call.{read, look, write, truncate, sync, mount}
 use Rattle.model.specs.Claims.{asItCame, mountedAfter, Demand1}
@@ -46,12 +46,12 @@ module _ (P : ℕ) where
   ordered (sync f budget) d = (
     _,
     admit-answer d (fileTests P d f true) _
-        ∙ ap (firstRefusal (fileTests P d f true)) (budget-answer P budget (Syncing.syncPlan P d f) (Syncing.syncedState d f) d),
+        ∙ ap (firstRefusal (fileTests P d f true)) (budget-answer P budget (Syncing.syncPlan P d f) (Syncing.syncedState (d .cache) f) d),
   )
   ordered (mount budget) d = (
     _,
-    admit-answer d (mediaShape P d ++ sizesFit P d) _
-        ∙ ap (firstRefusal (mediaShape P d ++ sizesFit P d)) (budget-answer P budget (Mounting.mountPlan P (d .media)) _ d),
+    admit-answer d (mountTests P (d .media)) _
+        ∙ ap (firstRefusal (mountTests P (d .media))) (budget-answer P budget (Mounting.mountPlan P (d .media)) _ d),
   )
 
   -- ---- what a call leaves

@@ -12,22 +12,22 @@ use Rattle.answer.specs.Coded.{Coded, done, BOOKS, DOWN, NO-ROOM, CUT}
 use Rattle.memory.specs.Bytes.{zeros}
 use Rattle.media.specs.Geometry.{files, mediaBytes, fileStart}
 use Rattle.media.specs.Write.{mediaOf}
-use Rattle.cache.specs.Device.{Device, deviceOf, framesBytes, freeWhere, downState, mountedState}
-use Rattle.cache.specs.Sizes.{inOrder}
-use Rattle.cache.specs.Sound.{inRange, holdsAlone, isDown, soundTests, isSound}
-use Rattle.cache.specs.Current.{currentAt}
-use Rattle.cache.specs.Admission.{mediaShape, framesShape, sizesFit, stateTests}
-use Rattle.cache.specs.Reading as Reading
-use Rattle.cache.specs.Looking as Looking
-use Rattle.cache.specs.Writing as Writing
-use Rattle.cache.specs.Writing.{blankPage, filledPage, cachePage, patchPage, putPage, grown}
-use Rattle.cache.specs.Truncating as Truncating
-use Rattle.cache.specs.Truncating.{clearTail, withSizes, truncated}
-use Rattle.cache.specs.Syncing as Syncing
-use Rattle.cache.specs.Syncing.{trimWrites, pageWrite, pageWrites, sizeWrites, syncPlan, syncedState}
-use Rattle.cache.specs.Plan.{writeIf, underBudget}
-use Rattle.cache.specs.Mounting as Mounting
-use Rattle.cache.specs.Mounting.{nonzeroFrom, trimsFrom, mountPlan}
+use Rattle.device.specs.Device.{Device, deviceOf, framesBytes, freeWhere, downState, mountedState}
+use Rattle.device.specs.Sizes.{inOrder}
+use Rattle.device.specs.Sound.{inRange, holdsAlone, isDown, soundTests, isSound}
+use Rattle.device.specs.Current.{currentAt}
+use Rattle.device.specs.Admission.{mediaShape, framesShape, sizesFit, stateTests}
+use Rattle.device.specs.Reading as Reading
+use Rattle.device.specs.Looking as Looking
+use Rattle.device.specs.Writing as Writing
+use Rattle.device.specs.Writing.{blankPage, filledPage, cachePage, patchPage, putPage, grown}
+use Rattle.device.specs.Truncating as Truncating
+use Rattle.device.specs.Truncating.{clearTail, withSizes, truncated}
+use Rattle.device.specs.Syncing as Syncing
+use Rattle.device.specs.Syncing.{trimWrites, pageWrite, pageWrites, sizeWrites, syncPlan, syncedState}
+use Rattle.device.specs.Plan.{writeIf, underBudget}
+use Rattle.device.specs.Mounting as Mounting
+use Rattle.device.specs.Mounting.{nonzeroFrom, trimsFrom, mountPlan}
 use Rattle.model.specs.ModelFile.{Becomes}
 use Rattle.model.specs.ModelFile.Entry.{written}
 use Rattle.model.specs.Run.Call.{read, look, write, truncate, sync, mount}

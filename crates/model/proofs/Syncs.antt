@@ -10,15 +10,15 @@ use Rattle.memory.proofs.Cases.{split-lt, split-eq}
 use Rattle.media.specs.Geometry.{files, pageBytes, fileBytes}
 use Rattle.media.specs.Write.{Media, sizeAt, applyAll, All}
 use Rattle.media.proofs.Write.{all-bytes-stay, all-sizes-stay}
-use Rattle.cache.specs.Device.{Device, deviceOf, framesBytes, logicalAt, floorAt, downState}
-use Rattle.cache.specs.Current.{currentAt}
-use Rattle.cache.specs.Admission.{Result}
-use Rattle.cache.specs.Syncing as Syncing
-use Rattle.cache.specs.Syncing.{syncPlan}
-use Rattle.cache.proofs.Sound.{Fit}
-use Rattle.cache.proofs.Admission.{Mountable}
-use Rattle.cache.proofs.Plan.{Own, all-take, own-other-byte, own-other-size}
-use Rattle.cache.proofs.Syncing.{sync-by, plan-own, Ready, CutAt, Stored, boundary, sync-cut, sync-done, syncedDevice, synced-logical, synced-floor, synced-floor-other, synced-byte-other, synced-size-other, synced-own, synced-other, synced-cached, synced-fit}
+use Rattle.device.specs.Device.{Device, deviceOf, framesBytes, logicalAt, floorAt, downState}
+use Rattle.device.specs.Current.{currentAt}
+use Rattle.device.specs.Admission.{Result}
+use Rattle.device.specs.Syncing as Syncing
+use Rattle.device.specs.Syncing.{syncPlan}
+use Rattle.device.proofs.Sound.{Fit}
+use Rattle.device.proofs.Admission.{Mountable}
+use Rattle.device.proofs.Plan.{Own, all-take, own-other-byte, own-other-size}
+use Rattle.device.proofs.Syncing.{sync-by, plan-own, Ready, CutAt, Stored, boundary, sync-cut, sync-done, syncedDevice, synced-logical, synced-floor, synced-floor-other, synced-byte-other, synced-size-other, synced-own, synced-other, synced-cached, synced-fit}
 use Rattle.model.specs.ModelFile.{afterSync}
 use Rattle.model.specs.Run.{Files, change, feed}
 use Rattle.model.specs.Run.Call.{sync}

@@ -9,13 +9,13 @@ use lib.ListN.{length}
 use borrow.Author.Tests.{leb-true, ne-eqb, lt-ltb, le-ltb}
 use Rattle.memory.proofs.Cases.{split-lt}
 use Rattle.media.specs.Geometry.{files, pageBytes, fileBytes}
-use Rattle.cache.specs.Device.{Device, framesBytes, floorAt}
-use Rattle.cache.specs.Current.{currentAt}
-use Rattle.cache.specs.Admission.{Result}
-use Rattle.cache.specs.Truncating as Truncating
-use Rattle.cache.specs.Truncating.{truncated}
-use Rattle.cache.proofs.Sound.{Fit}
-use Rattle.cache.proofs.Truncating.{truncate-by, truncated-logical, truncated-floor, truncated-sizes-other, truncated-fit, truncated-media, truncated-below, truncated-past, truncated-other, truncated-cached}
+use Rattle.device.specs.Device.{Device, framesBytes, floorAt}
+use Rattle.device.specs.Current.{currentAt}
+use Rattle.device.specs.Admission.{Result}
+use Rattle.device.specs.Truncating as Truncating
+use Rattle.device.specs.Truncating.{truncated}
+use Rattle.device.proofs.Sound.{Fit}
+use Rattle.device.proofs.Truncating.{truncate-by, truncated-logical, truncated-floor, truncated-sizes-other, truncated-fit, truncated-media, truncated-below, truncated-past, truncated-other, truncated-cached}
 use Rattle.model.specs.ModelFile.{ModelFile, afterTruncate}
 use Rattle.model.specs.ModelFile.Entry.{truncated as truncatedTo}
 use Rattle.model.specs.Run.{Files, change, feed}

@@ -10,11 +10,11 @@ use lib.Seq.{getD-take, length-take-le}
 use borrow.Author.Tests.{lt-ltb, leb-true, eq-eqb, ne-eqb}
 use Rattle.memory.proofs.Cases.{split-lt, split-eq}
 use Rattle.media.specs.Geometry.{files, pageBytes}
-use Rattle.cache.specs.Device.{Device, logicalAt, floorAt}
-use Rattle.cache.specs.Admission.{Result}
-use Rattle.cache.specs.Writing as Writing
-use Rattle.cache.proofs.Admission.{Mountable}
-use Rattle.cache.proofs.Writing.{write-by, Leaves, write-leaves}
+use Rattle.device.specs.Device.{Device, logicalAt, floorAt}
+use Rattle.device.specs.Admission.{Result}
+use Rattle.device.specs.Writing as Writing
+use Rattle.device.proofs.Admission.{Mountable}
+use Rattle.device.proofs.Writing.{write-by, Leaves, write-leaves}
 use Rattle.model.specs.ModelFile.{ModelFile, cachedBy, afterWrite}
 use Rattle.model.specs.ModelFile.Entry.{written}
 use Rattle.model.specs.Run.{Files, change, feed}

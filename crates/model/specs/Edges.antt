@@ -9,10 +9,10 @@ use Rattle.answer.specs.Coded.{Coded, done, RANGE, CUT}
 use Rattle.memory.specs.Bytes.{zeros}
 use Rattle.media.specs.Geometry.{files, pagesPerFile, fileBytes, mediaBytes}
 use Rattle.media.specs.Write.{mediaOf}
-use Rattle.cache.specs.Scan.{every}
-use Rattle.cache.specs.Device.{Device, deviceOf, framesBytes, logicalAt, downState, mountedState}
-use Rattle.cache.specs.Admission.{give}
-use Rattle.cache.specs.Mounting as Mounting
+use Rattle.device.specs.Scan.{every}
+use Rattle.device.specs.Device.{Device, deviceOf, framesBytes, logicalAt, downState, mountedState}
+use Rattle.device.specs.Admission.{give}
+use Rattle.device.specs.Mounting as Mounting
 use Rattle.model.specs.Run.{Call, Reply}
 use Rattle.model.specs.Run.Call.{read, write, truncate, sync, mount}
 use Rattle.model.specs.Store.{storeDoes, storeMedia}

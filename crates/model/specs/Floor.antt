@@ -4,7 +4,7 @@ use mathlib.Core.Path.{_≡_}
 use mathlib.Core.List.{List, [], _∷_}
 use lib.ListN.{length}
 use Rattle.media.specs.Geometry.{files}
-use Rattle.cache.specs.Device.{floorAt}
+use Rattle.device.specs.Device.{floorAt}
 use Rattle.model.specs.ModelFile.{Entry}
 use Rattle.model.specs.ModelFile.Entry.{written, truncated}
 use Rattle.model.specs.Run.{World, Event, InEveryRun}

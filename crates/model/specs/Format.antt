@@ -9,15 +9,15 @@ use Rattle.answer.specs.Coded.{done, CUT}
 use Rattle.answer.specs.Admission.{test, firstRefusal}
 use Rattle.media.specs.Geometry.{files, fileBytes}
 use Rattle.media.specs.Write.{byteAt, sizeAt, applyAll}
-use Rattle.cache.specs.Device.{Device, deviceOf, downState}
-use Rattle.cache.specs.Admission.{Result, mediaShape}
-use Rattle.cache.specs.Mounting.{formatPlan, format}
+use Rattle.device.specs.Device.{Device, deviceOf, downState}
+use Rattle.device.specs.Admission.{Result, mediaShape}
+use Rattle.device.specs.Mounting.{formatPlan, format}
 use Rattle.model.specs.Run.{IsDone}
 
 -- what a format gives on a device
 pub record Formats (P budget : ℕ) (d : Device) (r : Result Device) : Type 0 where
   -- SHAPE, then CUT
-  pub in-order : r .answer ≡ firstRefusal (mediaShape P d ++ (test (leb (length (formatPlan P (d .media))) budget) (CUT budget) ∷ [])) (done (length (formatPlan P (d .media))))
+  pub in-order : r .answer ≡ firstRefusal (mediaShape P (d .media) ++ (test (leb (length (formatPlan P (d .media))) budget) (CUT budget) ∷ [])) (done (length (formatPlan P (d .media))))
   pub unchanged : r .answer .number ≢ 0 → r .answer .number ≢ 9 → r .left ≡ d
   pub cut : r .answer .number ≡ 9 → r .left ≡ deviceOf (applyAll P (d .media) (take budget (formatPlan P (d .media)))) (d .frames) downState
   -- done leaves eight empty files on zeros, and the device down

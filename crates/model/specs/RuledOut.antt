@@ -11,13 +11,13 @@ use Rattle.memory.specs.Bytes.{zeros, part}
 use Rattle.media.specs.Geometry.{files, pageBytes, fileBytes, mediaBytes}
 use Rattle.media.specs.Write.{MediaWrite, mediaOf, sizeAt}
 use Rattle.media.specs.Write.MediaWrite.{page}
-use Rattle.cache.specs.declared.Slot.{Slot}
-use Rattle.cache.specs.Device.{Device, deviceOf, frameStart, freeWhere, logicalAt, withSlots, withFloor, downState, mountedState}
-use Rattle.cache.specs.Admission.{Result, give, admit, mediaShape, sizesFit, fileTests}
-use Rattle.cache.specs.Truncating.{pagesFrom, clearTail, withSizes}
-use Rattle.cache.specs.Syncing.{trimWrites, pageWrites, sizeWrites, syncPlan, syncedState}
-use Rattle.cache.specs.Writing.{cachePage}
-use Rattle.cache.specs.Plan.{writeIf, underBudget}
+use Rattle.device.specs.declared.Slot.{Slot}
+use Rattle.device.specs.Device.{Device, deviceOf, frameStart, freeWhere, logicalAt, withSlots, withFloor, downState, mountedState}
+use Rattle.device.specs.Admission.{Result, give, admit, fileTests, mountTests}
+use Rattle.device.specs.Truncating.{pagesFrom, clearTail, withSizes}
+use Rattle.device.specs.Syncing.{trimWrites, pageWrites, sizeWrites, syncPlan, syncedState}
+use Rattle.device.specs.Writing.{cachePage}
+use Rattle.device.specs.Plan.{writeIf, underBudget}
 use Rattle.model.specs.Run.{Interface}
 use Rattle.model.specs.Claims.{Demand1, Demand2, Demand3}
 use Rattle.model.specs.Store.{Calls, storeWith, storeCalls}
@@ -57,7 +57,7 @@ module _ (P : ℕ) where
 
   -- a sync with another plan
   abbrev pub withPlan : (Device → ℕ → List MediaWrite) → Interface
-  withPlan plan = withSync (λ f budget d. admit (fileTests P d f true) d (underBudget P budget (plan d f) (syncedState d f) d))
+  withPlan plan = withSync (λ f budget d. admit (fileTests P d f true) d (underBudget P budget (plan d f) (syncedState (d .cache) f) d))
 
 -- ---- stores that are not accepted
 
@@ -110,7 +110,7 @@ emptyLook = withLook 1 (λ f position d. give (storeCalls 1 .looking f position 
 abbrev pub pretends : Interface
 pretends =
     withSync 1 (λ f budget d.
-    cond (eqb (sizeAt (d .media) f) 0) (storeCalls 1 .syncing f budget d) (give (done 0) (deviceOf (d .media) (d .frames) (syncedState d f))))
+    cond (eqb (sizeAt (d .media) f) 0) (storeCalls 1 .syncing f budget d) (give (done 0) (deviceOf (d .media) (d .frames) (syncedState (d .cache) f))))
 
 -- a sync that invents its store count
 abbrev pub inventsCount : Interface
@@ -215,7 +215,7 @@ trimSkipped = withPlan 1 (λ d f. cond (eqb (logicalAt d f) (sizeAt (d .media) f
 
 -- leaving bytes past the stored size at mount
 abbrev pub mountLeaves : Interface
-mountLeaves = withMount 1 (λ budget d. admit (mediaShape 1 d ++ sizesFit 1 d) d (underBudget 1 budget [] (mountedState (d .media .sizes)) d))
+mountLeaves = withMount 1 (λ budget d. admit (mountTests 1 (d .media)) d (underBudget 1 budget [] (mountedState (d .media .sizes)) d))
 
 -- ---- the claim
 

@@ -1,7 +1,7 @@
 -- The device of this store, as the claims see it. P is the number of pages in a file.
 use Prim.Native.Nat.{ℕ, _+_}
 use mathlib.Core.Bool.{true}
-use mathlib.Core.List.{List, [], _∷_, _++_}
+use mathlib.Core.List.{List, [], _∷_}
 use lib.Dec.{eqb, leb}
 use lib.ListN.{length, take}
 use Rattle.answer.specs.Coded.{NO-ROOM, CUT}
@@ -9,14 +9,14 @@ use Rattle.answer.specs.Admission.{Test, test}
 use Rattle.memory.specs.Bytes.{part}
 use Rattle.media.specs.Geometry.{fileBytes, fileStart}
 use Rattle.media.specs.Write.{MediaWrite, sizeAt, applyAll}
-use Rattle.cache.specs.Device.{Device, deviceOf, framesBytes, isCached, downState}
-use Rattle.cache.specs.Admission.{Result, give, mediaShape, sizesFit, fileTests}
-use Rattle.cache.specs.Reading as Reading
-use Rattle.cache.specs.Writing as Writing
-use Rattle.cache.specs.Truncating as Truncating
-use Rattle.cache.specs.Syncing as Syncing
-use Rattle.cache.specs.Mounting as Mounting
-use Rattle.cache.specs.Looking as Looking
+use Rattle.device.specs.Device.{Device, deviceOf, framesBytes, isCached, downState}
+use Rattle.device.specs.Admission.{Result, give, fileTests, mountTests}
+use Rattle.device.specs.Reading as Reading
+use Rattle.device.specs.Writing as Writing
+use Rattle.device.specs.Truncating as Truncating
+use Rattle.device.specs.Syncing as Syncing
+use Rattle.device.specs.Mounting as Mounting
+use Rattle.device.specs.Looking as Looking
 use Rattle.model.specs.Run.{Call, Reply, Interface}
 use Rattle.model.specs.Run.Call.{read, look, write, truncate, sync, mount}
 
@@ -60,7 +60,7 @@ storeConditions P (look f position) d = fileTests P d f (leb position (fileBytes
 storeConditions P (write f position bytes) d = fileTests P d f (leb (position + length bytes) (fileBytes P))
 storeConditions P (truncate f n) d = fileTests P d f (leb n (fileBytes P))
 storeConditions P (sync f budget) d = fileTests P d f true
-storeConditions P (mount budget) d = mediaShape P d ++ sizesFit P d
+storeConditions P (mount budget) d = mountTests P (d .media)
 
 -- the media writes of a call, and its budget
 abbrev pub storePlan : ℕ → Call → Device → List MediaWrite
@@ -110,7 +110,7 @@ storeWith P calls = record {
   cutShort = storeCutShort P;
 }
 
--- the calls of this store, as defined in crate `cache`
+-- the calls of this store, as defined in crate `device`
 abbrev pub storeCalls : ℕ → Calls
 storeCalls P = record {
   reading = Reading.read P;

@@ -16,8 +16,8 @@ Inv-loop dst₀ src n i₀ dst i = (dst ≡ overwrite dst₀ 0 (take i src)) × 
 abbrev μ-loop : tie.MeasureT-loop
 μ-loop dst₀ src n i₀ dst i = n - i
 
-shorter-requires : tie.Need-shorter-requires Inv-loop μ-loop
-shorter-requires c κs = search needs
+min-requires : tie.Need-min-requires Inv-loop μ-loop
+min-requires c κs = search needs
 
 loop-holds : tie.Need-loop-holds Inv-loop μ-loop
 loop-holds c = (sym (overwrite-none _ 0), search needs, search needs, search needs)
@@ -56,7 +56,7 @@ copy-spec =
     (tie.spec
     Inv-loop
     μ-loop
-    shorter-requires
+    min-requires
     loop-holds
     shared-slice-read-dst
     slice-write-dst

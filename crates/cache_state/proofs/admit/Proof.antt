@@ -1,0 +1,52 @@
+use mathlib.Core.Path.{refl, _∙_}
+use mathlib.Core.List.{List}
+use Rattle.answer.specs.Admission.{Test}
+use Rattle.answer.proofs.Admission.{then-refused, then-rest}
+use Rattle.media.specs.Geometry.{pagesPerFile}
+use Rattle.media.specs.Write.{mediaOf}
+use Rattle.device.specs.Admission.{mediaShape, framesShape, sizesFit, stateTests, deviceTests}
+use borrow.Author.Needs.{needs}
+use Rattle.cache_state.proofs.admit.Statement.{statement}
+use Rattle.cache_state.proofs.admit.Tie as tie
+
+-- the tests of `admit_device`, and those after them
+abbrev first : tie.After-admit-device → List Test
+first c = let a = c .before .before .before .before .args in deviceTests pagesPerFile (mediaOf (a .media .now) (a .sizes .now)) (a .frames .now)
+
+abbrev rest : tie.After-admit-device → List Test
+rest c = let a = c .before .before .before .before .args in stateTests pagesPerFile (a .sizes .now) (a .cache) (a .file) (a .in-range)
+
+admit-device-requires : tie.Need-admit-device-requires
+admit-device-requires c κs = search needs
+
+enum-known-admission : tie.Need-enum-known-admission
+enum-known-admission c = search needs
+
+enum-told : tie.Need-enum-told
+enum-told c = search needs
+
+admit-state-requires : tie.Need-admit-state-requires
+admit-state-requires c κs = search needs
+
+returns : tie.Need-returns
+returns c =
+    let b = c .before .before .before in
+    then-refused (first b) (rest b) _ (b .admit-device .ensures) _ (c .before .admission .given .1)
+
+returns-2 : tie.Need-returns-2
+unfolding mediaShape framesShape sizesFit
+returns-2 c =
+    let s = c .before in
+    let b = s .before .before in
+    c .admit-state .ensures ∙ then-rest (first b) (rest b) _ (b .admit-device .ensures) refl _ (s .enum-told .given .1)
+
+pub admit-spec : {M : Type 1} → statement M
+admit-spec =
+    tie.close
+    (tie.spec
+    admit-device-requires
+    enum-known-admission
+    enum-told
+    admit-state-requires
+    returns
+    returns-2)

@@ -1,0 +1,20 @@
+use mathlib.Core.Path.{_∙_}
+use Rattle.device.proofs.Admission.{frames-refused, frames-passed}
+use borrow.Author.Needs.{needs}
+use Rattle.cache_state.proofs.admit_device.Statement.{statement}
+use Rattle.cache_state.proofs.admit_device.Tie as tie
+
+mul-if1 : tie.Need-mul-if1
+mul-if1 c = search needs
+
+returns : tie.Need-returns
+returns c = frames-refused _ _ _ (c .if1 .taken)
+
+admit-mount-requires : tie.Need-admit-mount-requires
+admit-mount-requires c κs = search needs
+
+returns-2 : tie.Need-returns-2
+returns-2 c = c .admit-mount .ensures ∙ frames-passed _ _ _ (c .before .if1 .left)
+
+pub admit-device-spec : {M : Type 1} → statement M
+admit-device-spec = tie.close (tie.spec mul-if1 returns admit-mount-requires returns-2)

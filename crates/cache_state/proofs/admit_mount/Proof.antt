@@ -1,0 +1,59 @@
+use mathlib.Core.Path.{refl, sym, _∙_}
+use Rattle.answer.proofs.Admission.{then-refused, then-rest}
+use Rattle.media.specs.Geometry.{pagesPerFile}
+use Rattle.media.specs.Write.{Media, mediaOf}
+use Rattle.device.specs.Admission.{mediaShape, sizesFit}
+use Rattle.device.proofs.Admission.{fit-done, fit-refused}
+use borrow.Author.Needs.{needs}
+use Rattle.cache_state.proofs.admit_mount.Statement.{statement}
+use Rattle.cache_state.proofs.admit_mount.Tie as tie
+
+abbrev m : tie.After-admit-format → Media
+m c = let a = c .before .before .before .args in mediaOf (a .media .now) (a .sizes .now)
+
+admit-format-requires : tie.Need-admit-format-requires
+admit-format-requires c κs = search needs
+
+enum-known-shape : tie.Need-enum-known-shape
+enum-known-shape c = search needs
+
+enum-told : tie.Need-enum-told
+enum-told c = search needs
+
+mul-sizes-fit : tie.Need-mul-sizes-fit
+mul-sizes-fit c = search needs
+
+sizes-fit-requires : tie.Need-sizes-fit-requires
+sizes-fit-requires c κs = search needs
+
+returns : tie.Need-returns
+unfolding mediaShape
+returns c =
+    let s = c .before in
+    let b = s .before .before .before in
+    fit-done pagesPerFile (m b) (sym (s .sizes-fit .ensures) ∙ c .if1 .taken) ∙ then-rest (mediaShape pagesPerFile (m b)) (sizesFit pagesPerFile (m b)) _ (b .admit-format .ensures) refl _ (s .before .enum-told .given .1)
+
+returns-2 : tie.Need-returns-2
+returns-2 c =
+    let b = c .before .before .before in
+    then-refused (mediaShape pagesPerFile (m b)) (sizesFit pagesPerFile (m b)) _ (b .admit-format .ensures) _ (c .before .shape .given .1)
+
+returns-3 : tie.Need-returns-3
+unfolding mediaShape
+returns-3 c =
+    let s = c .before in
+    let b = s .before .before .before in
+    fit-refused pagesPerFile (m b) (sym (s .sizes-fit .ensures) ∙ c .if1 .left) ∙ then-rest (mediaShape pagesPerFile (m b)) (sizesFit pagesPerFile (m b)) _ (b .admit-format .ensures) refl _ (s .before .enum-told .given .1)
+
+pub admit-mount-spec : {M : Type 1} → statement M
+admit-mount-spec =
+    tie.close
+    (tie.spec
+    admit-format-requires
+    enum-known-shape
+    enum-told
+    mul-sizes-fit
+    sizes-fit-requires
+    returns
+    returns-2
+    returns-3)

@@ -1,0 +1,22 @@
+use borrow.Author.Tests.{eq-eqb, ne-eqb}
+use borrow.Author.Needs.{needs}
+use Rattle.cache_state.proofs.holds.Statement.{statement}
+use Rattle.cache_state.proofs.holds.Tie as tie
+
+cast-f : tie.Need-cast-f
+cast-f c = search needs
+
+cast-p : tie.Need-cast-p
+cast-p c = search needs
+
+returns : tie.Need-returns
+returns c = rw (c .before .if1 .taken, eq-eqb _ _ (c .if2 .taken))
+
+returns-2 : tie.Need-returns-2
+returns-2 c = rw (c .before .if1 .taken, ne-eqb _ _ (c .if2 .left))
+
+returns-3 : tie.Need-returns-3
+returns-3 c = search needs
+
+pub holds-spec : {M : Type 1} → statement M
+holds-spec = tie.close (tie.spec cast-f cast-p returns returns-2 returns-3)

@@ -1,0 +1,31 @@
+use Rattle.device.specs.Sound.{holdsAlone}
+use borrow.Author.Needs.{needs}
+use Rattle.cache_state.proofs.holds_alone.Statement.{statement}
+use Rattle.cache_state.proofs.holds_alone.Tie as tie
+
+mul-s : tie.Need-mul-s
+mul-s c = search needs
+
+array-copy-out-s : tie.Need-array-copy-out-s
+array-copy-out-s c = search needs
+
+cast-f : tie.Need-cast-f
+cast-f c = search needs
+
+cast-p : tie.Need-cast-p
+cast-p c = search needs
+
+slot-of-requires : tie.Need-slot-of-requires
+slot-of-requires c κs = search needs
+
+returns : tie.Need-returns
+unfolding holdsAlone
+returns c = rw (c .before .before .before .if1 .taken, c .slot-of .ensures)
+
+returns-2 : tie.Need-returns-2
+unfolding holdsAlone
+returns-2 c = rw (c .if1 .left)
+
+pub holds-alone-spec : {M : Type 1} → statement M
+holds-alone-spec =
+    tie.close (tie.spec mul-s array-copy-out-s cast-f cast-p slot-of-requires returns returns-2)

@@ -1,0 +1,54 @@
+use Rattle.device.specs.Device.{slotCount}
+use borrow.Author.Needs.{needs}
+use mathlib.Core.Path.{sym, _∙_}
+use Prim.Native.Nat.{_≤_, _-_}
+use native.Mathlib.Omega.{arith}
+use Rattle.device.specs.Sound.{holdsAlone}
+use Rattle.device.proofs.Loops.{Below, below-none, below-stop, below-next, below-end}
+use Rattle.cache_state.proofs.slots_alone.Statement.{statement}
+use Rattle.cache_state.proofs.slots_alone.Tie as tie
+
+abbrev Inv-loop : tie.InvT-loop
+Inv-loop cache k₀ k = Below (holdsAlone (cache .slots)) k × (k ≤ slotCount)
+
+abbrev μ-loop : tie.MeasureT-loop
+μ-loop cache k₀ k = slotCount - k
+
+loop-holds : tie.Need-loop-holds Inv-loop μ-loop
+loop-holds c = (below-none, search needs)
+
+holds-alone-requires : tie.Need-holds-alone-requires Inv-loop μ-loop
+holds-alone-requires c κs = search needs
+
+add-k : tie.Need-add-k Inv-loop μ-loop
+add-k c = search needs
+
+loop-less : tie.Need-loop-less Inv-loop μ-loop
+loop-less c = search needs
+
+loop-again : tie.Need-loop-again Inv-loop μ-loop
+loop-again c =
+    let l = c .before .before .before in
+    (below-next (l .loop .inv .0) (sym (c .before .holds-alone .ensures) ∙ c .if1 .taken), search needs)
+
+returns : tie.Need-returns Inv-loop μ-loop
+returns c =
+    let l = c .before .before .before in
+    below-stop (l .loop .inv .0) slotCount (omega arith) (sym (c .before .holds-alone .ensures) ∙ c .if1 .left)
+
+returns-2 : tie.Need-returns-2 Inv-loop μ-loop
+returns-2 c = below-end (c .before .loop .inv .0) slotCount (omega arith)
+
+pub slots-alone-spec : {M : Type 1} → statement M
+slots-alone-spec =
+    tie.close
+    (tie.spec
+    Inv-loop
+    μ-loop
+    loop-holds
+    holds-alone-requires
+    add-k
+    loop-less
+    loop-again
+    returns
+    returns-2)

@@ -1,0 +1,14 @@
+pub mod Scan
+pub mod Device
+pub mod Current
+pub mod Sizes
+pub mod Sound
+pub mod Admission
+pub mod Reading
+pub mod Writing
+pub mod Truncating
+pub mod Plan
+pub mod Syncing
+pub mod Mounting
+pub mod Looking
+pub mod Loops

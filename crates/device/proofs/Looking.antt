@@ -1,0 +1,110 @@
+-- What a look hands back: current bytes, from its position on.
+use mathlib.Core.Path.{_≡_, sym, ap, _∙_}
+use mathlib.Core.Logic.{_≢_}
+use mathlib.Core.List.{List, []}
+use Prim.Native.Nat.{ℕ, _+_, _/_, _%_, _≤_, _<_}
+use native.Mathlib.Nat.{le-trans}
+use native.Mathlib.Omega.{arith}
+use lib.ListN.{length, getD, length-take}
+use lib.Dec.{leb}
+use borrow.Author.Tests.{ne-eqb, lt-ltb, le-ltb}
+use Rattle.answer.specs.Coded.{Coded, refused, done}
+use Rattle.answer.specs.Admission.{ifDone}
+use Rattle.memory.specs.Bytes.{part}
+use Rattle.memory.proofs.Cases.{split-lt}
+use Rattle.memory.proofs.Bytes.{length-part, getD-part}
+use Rattle.media.specs.Geometry.{files, pageBytes, fileBytes, fileStart}
+use Rattle.media.proofs.Geometry.{file-end}
+use Rattle.device.specs.Device.{Device, slotCount, framesBytes, frameStart, slotOf, logicalAt, floorAt}
+use Rattle.device.specs.Current.{currentAt}
+use Rattle.device.specs.Admission.{mediaShape, framesShape, sizesFit, stateTests, fileTests}
+use Rattle.device.specs.Looking.{toPageEnd, lookCount, lookedAt, look}
+use Rattle.answer.proofs.Admission.{Changeless, first-by}
+use Rattle.device.proofs.Admission.{Admitted, file-changeless, file-admitted}
+use Rattle.device.proofs.Current.{current-cached, current-media, current-zero}
+use Rattle.device.proofs.Sound.{Fit}
+
+look-changeless : (P f position : ℕ) (d : Device) → Changeless (fileTests P d f (leb position (fileBytes P)))
+unfolding mediaShape framesShape sizesFit stateTests
+look-changeless P f position d = file-changeless P d f (leb position (fileBytes P)) [] tt
+
+-- refused and empty, or done
+pub look-by : (P f position : ℕ) (d : Device) (Q : Coded → List ℕ → Type 0)
+    → ((k : ℕ) → 0 < k → k ≢ 9 → Q (refused k) [])
+    → (Admitted P d f (leb position (fileBytes P)) → Q (done (toPageEnd position (logicalAt d f))) (lookedAt P f position d))
+    → Q (lookCount P f position d) (look P f position d)
+unfolding lookCount look
+look-by P f position d Q fails finished =
+    first-by (λ a. Q a (ifDone a (lookedAt P f position d) [])) (fileTests P d f (leb position (fileBytes P))) _ (look-changeless P f position d)
+    (λ k lo hi. rw (ne-eqb k 0 (λ e. (omega arith))) (fails k lo hi))
+    (λ e. finished (file-admitted P d f (leb position (fileBytes P)) e))
+
+part-most : (xs : List ℕ) (a n : ℕ) → length (part xs a n) ≤ n
+part-most xs a n = simp length-take (omega arith)
+
+nearer : (position a b : ℕ) → a ≤ b → toPageEnd position a ≤ toPageEnd position b
+nearer position a b h = omega arith
+
+module _ (P : ℕ) (d : Device) (f position : ℕ) where
+  from-frame : slotOf d f (position / pageBytes) < slotCount
+      → lookedAt P f position d ≡ part (d .frames) (frameStart (slotOf d f (position / pageBytes)) + position % pageBytes) (toPageEnd position (logicalAt d f))
+  unfolding lookedAt
+  from-frame l = rw (lt-ltb _ _ l)
+
+  from-media : slotCount ≤ slotOf d f (position / pageBytes)
+      → lookedAt P f position d ≡ part (d .media .bytes) (fileStart P f + position) (toPageEnd position (floorAt d f))
+  unfolding lookedAt
+  from-media l = rw (le-ltb _ _ l)
+
+  -- not more than its count
+  pub looked-most : floorAt d f ≤ logicalAt d f → length (lookedAt P f position d) ≤ toPageEnd position (logicalAt d f)
+  looked-most h =
+      split-lt (slotOf d f (position / pageBytes)) slotCount
+      (λ l. rw (from-frame l) (part-most (d .frames) (frameStart (slotOf d f (position / pageBytes)) + position % pageBytes) (toPageEnd position (logicalAt d f))))
+      (λ l. rw (from-media l)
+      (le-trans (part-most (d .media .bytes) (fileStart P f + position) (toPageEnd position (floorAt d f))) (nearer position (floorAt d f) (logicalAt d f) h)))
+
+  -- each is the current byte
+  pub looked-current : (k : ℕ) → k < length (lookedAt P f position d) → getD (lookedAt P f position d) k 0 ≡ currentAt P d f (position + k)
+  looked-current k h =
+      split-lt (slotOf d f (position / pageBytes)) slotCount
+      (λ l.
+      let s : ℕ = slotOf d f (position / pageBytes) in
+      let a : ℕ = frameStart s + position % pageBytes in
+      let n : ℕ = toPageEnd position (logicalAt d f) in
+      let e : lookedAt P f position d ≡ part (d .frames) a n = from-frame l in
+      let hk : k < n = (le-trans (rw e at h) (part-most (d .frames) a n)) in
+      rw e
+      (getD-part (d .frames) a n k hk
+      ∙ ap (λ (j : ℕ). getD (d .frames) j 0) (omega arith)
+      ∙ sym (current-cached P d f (position + k) (position / pageBytes) (omega arith) l)))
+      (λ l.
+      let a : ℕ = fileStart P f + position in
+      let n : ℕ = toPageEnd position (floorAt d f) in
+      let e : lookedAt P f position d ≡ part (d .media .bytes) a n = from-media l in
+      let hk : k < n = (le-trans (rw e at h) (part-most (d .media .bytes) a n)) in
+      rw e
+      (getD-part (d .media .bytes) a n k hk
+      ∙ ap (λ (j : ℕ). getD (d .media .bytes) j 0) (omega arith)
+      ∙ sym (current-media P d f (position + k) (position / pageBytes) (omega arith) l (omega arith))))
+
+  -- what is left out of the count is 0
+  pub looked-rest : Fit P d → length (d .frames) ≡ framesBytes → f < files → (k : ℕ) → length (lookedAt P f position d) ≤ k
+      → k < toPageEnd position (logicalAt d f) → currentAt P d f (position + k) ≡ 0
+  looked-rest x frames hf k lo hi =
+      split-lt (slotOf d f (position / pageBytes)) slotCount
+      (λ l.
+      let a : ℕ = frameStart (slotOf d f (position / pageBytes)) + position % pageBytes in
+      let n : ℕ = toPageEnd position (logicalAt d f) in
+      let e : length (lookedAt P f position d) ≡ n = ap length (from-frame l) ∙ length-part (d .frames) a n (omega arith) in
+      absurd (omega arith))
+      (λ l.
+      let n : ℕ = toPageEnd position (floorAt d f) in
+      split-lt position (floorAt d f)
+      (λ h.
+      let e : length (lookedAt P f position d) ≡ n =
+      ap length (from-media l)
+      ∙ length-part (d .media .bytes) (fileStart P f + position) n
+      (omega (arith, file-end P f hf, x .bytes, x .sizes .floor-logical f hf, x .sizes .logical-fits f hf)) in
+      current-zero P d f (position + k) (position / pageBytes) (omega arith) l (omega arith))
+      (λ h. current-zero P d f (position + k) (position / pageBytes) (omega arith) l (omega arith)))

@@ -1,0 +1,97 @@
+-- Laws of tests over a list.
+use mathlib.Core.Path.{_≡_, refl, sym, ap, _∙_}
+use mathlib.Core.Bool.{Bool, true, false, _&&_, _||_, false≢true}
+use mathlib.Core.List.{List, [], _∷_, map}
+use Prim.Native.Nat.{ℕ, zero, suc, _<_, _≤_, suc-le-suc}
+use native.Mathlib.Nat.{not-suc-le-zero, le-of-suc-le-suc}
+use native.Mathlib.Omega.{arith}
+use lib.ListN.{length, getD, set}
+use borrow.Table.Steps.{cases}
+use Rattle.memory.proofs.Cases.{split-eq}
+use Rattle.device.specs.Scan.{allOf, every, everyBelow, firstIndex}
+
+-- ---- both, and one
+
+pub and-left : (a b : Bool) → a && b ≡ true → a ≡ true
+and-left true b e = refl
+and-left false b e = e
+
+pub and-right : (a b : Bool) → a && b ≡ true → b ≡ true
+and-right true b e = e
+and-right false b e = absurd (false≢true e)
+
+pub and-both : (a b : Bool) → a ≡ true → b ≡ true → a && b ≡ true
+and-both a b e d = rw (e, d)
+
+pub or-left : (a b : Bool) → a || b ≡ false → a ≡ false
+or-left true b e = e
+or-left false b e = refl
+
+pub or-right : (a b : Bool) → a || b ≡ false → b ≡ false
+or-right true b e = absurd (false≢true (sym e))
+or-right false b e = e
+
+pub is-false : (b : Bool) → (b ≡ true → ⊥) → b ≡ false
+is-false b h = cases b (λ e. absurd (h e)) (λ e. e)
+
+pub true-not-false : (b : Bool) → b ≡ true → b ≡ false → ⊥
+true-not-false b e d = false≢true (sym d ∙ e)
+
+-- ---- every test, every element, every number
+
+pub allOf-at : (bs : List Bool) → allOf bs ≡ true → (k : ℕ) → getD bs k true ≡ true
+allOf-at [] e k = refl
+allOf-at (b ∷ bs) e zero = and-left b (allOf bs) e
+allOf-at (b ∷ bs) e (suc k) = allOf-at bs (and-right b (allOf bs) e) k
+
+pub everyBelow-at : (n : ℕ) (t : ℕ → Bool) → everyBelow n t ≡ true → (k : ℕ) → k < n → t k ≡ true
+everyBelow-at zero t e k h = absurd (not-suc-le-zero h)
+everyBelow-at (suc n) t e k h =
+    split-eq k n
+    (λ q. rw q (and-right (everyBelow n t) (t n) e))
+    (λ q. everyBelow-at n t (and-left (everyBelow n t) (t n) e) k (omega arith))
+
+pub everyBelow-all : (n : ℕ) (t : ℕ → Bool) → ((k : ℕ) → k < n → t k ≡ true) → everyBelow n t ≡ true
+everyBelow-all zero t h = refl
+everyBelow-all (suc n) t h = and-both (everyBelow n t) (t n) (everyBelow-all n t (λ k l. h k (omega arith))) (h n (omega arith))
+
+module _ {A : Type 0} (t : A → Bool) where
+  pub every-at : (xs : List A) (d : A) → every t xs ≡ true → (k : ℕ) → k < length xs → t (getD xs k d) ≡ true
+  every-at [] d e k h = absurd (not-suc-le-zero h)
+  every-at (x ∷ xs) d e zero h = and-left (t x) (every t xs) e
+  every-at (x ∷ xs) d e (suc k) h = every-at xs d (and-right (t x) (every t xs) e) k (le-of-suc-le-suc h)
+
+  pub every-all : (xs : List A) (d : A) → ((k : ℕ) → k < length xs → t (getD xs k d) ≡ true) → every t xs ≡ true
+  every-all [] d h = refl
+  every-all (x ∷ xs) d h =
+      and-both (t x) (every t xs) (h 0 (omega arith)) (every-all xs d (λ k l. h (suc k) (suc-le-suc l)))
+
+  -- ---- the first that passes
+
+  pub first-passes : (xs : List A) (d : A) → firstIndex t xs < length xs → t (getD xs (firstIndex t xs) d) ≡ true
+  first-passes [] d h = absurd (not-suc-le-zero h)
+  first-passes (x ∷ xs) d h =
+      cases (t x) (λ e. rw e e) (λ e. rw e (first-passes xs d (le-of-suc-le-suc (rw e at h))))
+
+  -- elements are changed, but none in what the test says of it
+  pub first-map : (g : A → A) (xs : List A) → ((x : A) → t (g x) ≡ t x) → firstIndex t (map g xs) ≡ firstIndex t xs
+  first-map g [] e = refl
+  first-map g (x ∷ xs) e = rw (e x, first-map g xs e)
+
+  pub first-map-none : (g : A → A) (xs : List A) → ((x : A) → t (g x) ≡ false) → firstIndex t (map g xs) ≡ length xs
+  first-map-none g [] e = refl
+  first-map-none g (x ∷ xs) e = rw (e x, first-map-none g xs e)
+
+  -- one element is replaced
+  pub first-set : (xs : List A) (k : ℕ) (y d : A) → t y ≡ false → t (getD xs k d) ≡ false → firstIndex t (set xs k y) ≡ firstIndex t xs
+  first-set [] k y d p q = refl
+  first-set (x ∷ xs) zero y d p q = rw (p, q)
+  first-set (x ∷ xs) (suc k) y d p q = rw (first-set xs k y d p q)
+
+  pub first-set-here : (xs : List A) (k : ℕ) (y : A) → t y ≡ true → length xs ≤ firstIndex t xs → k < length xs → firstIndex t (set xs k y) ≡ k
+  first-set-here [] k y p q h = absurd (not-suc-le-zero h)
+  first-set-here (x ∷ xs) zero y p q h = rw p
+  first-set-here (x ∷ xs) (suc k) y p q h =
+      cases (t x)
+      (λ e. absurd (not-suc-le-zero (rw e at q)))
+      (λ e. rw e (ap suc (first-set-here xs k y p (le-of-suc-le-suc (rw e at q)) (le-of-suc-le-suc h))))

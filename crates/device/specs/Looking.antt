@@ -1,0 +1,30 @@
+-- Look: document 01, "The calls". A part of the page frames or a part of the media, and its count.
+use Prim.Native.Nat.{ℕ, _+_, _-_, _/_, _%_, min}
+use mathlib.Core.Bool.{cond}
+use mathlib.Core.List.{List, []}
+use lib.Dec.{leb}
+use Rattle.answer.specs.Coded.{Coded, done}
+use Rattle.answer.specs.Admission.{firstRefusal, ifDone}
+use Rattle.memory.specs.Bytes.{part}
+use Rattle.media.specs.Geometry.{pageBytes, fileBytes, fileStart}
+use Rattle.device.specs.Device.{Device, frameStart, slotOf, isCached, logicalAt, floorAt}
+use Rattle.device.specs.Admission.{fileTests}
+
+-- from the position to the end of its page or to the limit, the nearer; 0 at or past the limit
+abbrev pub toPageEnd : ℕ → ℕ → ℕ
+toPageEnd position limit = min (pageBytes - position % pageBytes) (limit - position)
+
+unfoldable pub lookCount : ℕ → ℕ → ℕ → Device → Coded
+lookCount P f position d =
+    firstRefusal (fileTests P d f (leb position (fileBytes P))) (done (toPageEnd position (logicalAt d f)))
+
+-- where the page is cached, up to the logical size; where it is not, up to the floor
+unfoldable pub lookedAt : ℕ → ℕ → ℕ → Device → List ℕ
+lookedAt P f position d =
+    cond (isCached d f (position / pageBytes))
+    (part (d .frames) (frameStart (slotOf d f (position / pageBytes)) + position % pageBytes) (toPageEnd position (logicalAt d f)))
+    (part (d .media .bytes) (fileStart P f + position) (toPageEnd position (floorAt d f)))
+
+-- empty on a refusal
+unfoldable pub look : ℕ → ℕ → ℕ → Device → List ℕ
+look P f position d = ifDone (lookCount P f position d) (lookedAt P f position d) []
