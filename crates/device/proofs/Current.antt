@@ -1,16 +1,20 @@
 -- Laws of the current byte: where it is taken from, and that it is taken from nowhere else.
 use mathlib.Core.Path.{_≡_, refl, sym, ap, _∙_}
 use mathlib.Core.Bool.{true}
-use mathlib.Core.List.{List}
-use Prim.Native.Nat.{ℕ, zero, suc, _+_, _*_, _/_, _%_, _<_, _≤_}
+use mathlib.Core.List.{List, _∷_, _++_}
+use Prim.Native.Nat.{ℕ, zero, suc, _+_, _*_, _/_, _%_, _<_, _≤_, _-_, min}
 use native.Mathlib.Nat.{not-suc-le-zero, le-of-suc-le-suc}
 use native.Mathlib.Omega.{arith}
-use lib.ListN.{length, getD}
+use lib.ListN.{length, getD, length-replicate}
+use lib.Seq.{ext-getD}
 use borrow.Author.Tests.{lt-ltb, le-ltb}
 use Rattle.memory.proofs.Cases.{split-lt}
-use Rattle.media.specs.Geometry.{pageBytes}
+use Rattle.memory.specs.Bytes.{zeros, part, overwrite}
+use Rattle.memory.proofs.Bytes.{getD-zeros, length-overwrite, overwrite-in, overwrite-after, getD-part, length-part}
+use Rattle.media.specs.Geometry.{pageBytes, files, fileBytes, mediaBytes, fileStart}
 use Rattle.media.specs.Write.{byteAt}
-use Rattle.device.specs.Device.{Device, deviceOf, slotCount, freeSlot, holds, slotOf, floorAt}
+use Rattle.media.proofs.Geometry.{file-end}
+use Rattle.device.specs.Device.{Device, deviceOf, slotCount, freeSlot, holds, slotOf, floorAt, framesBytes, frameStart}
 use Rattle.device.specs.Current.{frameByte, currentAt, currentBytes}
 use Rattle.device.proofs.Scan.{first-passes}
 use Rattle.device.proofs.Device.{holds-is}
@@ -79,3 +83,45 @@ module _ (P : ℕ) where
     current-at i zero k h = absurd (not-suc-le-zero h)
     current-at i (suc n) zero h = ap (currentAt P d f) (omega arith)
     current-at i (suc n) (suc k) h = current-at (suc i) n k (le-of-suc-le-suc h) ∙ ap (currentAt P d f) (omega arith)
+
+-- ---- the current bytes of a page, and of a run of pages
+
+module _ (P : ℕ) (d : Device) (f : ℕ) where
+  -- n of them from i on, within one page
+  module _ (i n k : ℕ) (e : k ≡ slotOf d f (i / pageBytes)) (one : i % pageBytes + n ≤ pageBytes) where
+    pub bytes-cached : k < slotCount → length (d .frames) ≡ framesBytes → part (d .frames) (frameStart k + i % pageBytes) n ≡ currentBytes P d f i n
+    bytes-cached h l =
+        let a : ℕ = frameStart k + i % pageBytes in
+        let lp : length (part (d .frames) a n) ≡ n = length-part (d .frames) a n (omega arith) in
+        ext-getD 0 (part (d .frames) a n) (currentBytes P d f i n) (lp ∙ sym (length-current P d f i n)) (λ r hr.
+        getD-part (d .frames) a n r (omega arith)
+        ∙ ap (λ (j : ℕ). getD (d .frames) j 0) (let z : (i + r) % pageBytes ≡ i % pageBytes + r = omega arith in rw (← e, z) (omega arith))
+        ∙ sym (current-at P d f i n r (omega arith) ∙ current-cached P d f (i + r) (i / pageBytes) (omega arith) (omega arith)))
+
+    pub bytes-media : slotCount ≤ k → f < files → i + n ≤ fileBytes P → length (d .media .bytes) ≡ mediaBytes P
+        → overwrite (zeros n) 0 (part (d .media .bytes) (fileStart P f + i) (min n (floorAt d f - i))) ≡ currentBytes P d f i n
+    bytes-media h hf fits lm =
+        let a : ℕ = fileStart P f + i in
+        let m : ℕ = min n (floorAt d f - i) in
+        let over : List ℕ = part (d .media .bytes) a m in
+        let lo : length over ≡ m = length-part (d .media .bytes) a m (omega (arith, file-end P f hf)) in
+        let lz : length (zeros n) ≡ n = length-replicate {A = ℕ} n 0 in
+        ext-getD 0 (overwrite (zeros n) 0 over) (currentBytes P d f i n) (length-overwrite (zeros n) 0 over ∙ lz ∙ sym (length-current P d f i n)) (λ r hr.
+        let l : r < n = omega (arith, length-overwrite (zeros n) 0 over) in
+        split-lt (i + r) (floorAt d f)
+        (λ low.
+        overwrite-in (zeros n) 0 over r (omega arith) (omega arith) (omega arith)
+        ∙ getD-part (d .media .bytes) a m (r - 0) (omega arith)
+        ∙ ap (λ (j : ℕ). getD (d .media .bytes) j 0) (omega arith)
+        ∙ sym (current-at P d f i n r l ∙ current-media P d f (i + r) (i / pageBytes) (omega arith) (omega arith) low))
+        (λ high.
+        overwrite-after (zeros n) 0 over r (omega arith)
+        ∙ getD-zeros n r
+        ∙ sym (current-at P d f i n r l ∙ current-zero P d f (i + r) (i / pageBytes) (omega arith) (omega arith) high)))
+
+  pub current-join : (i n k : ℕ) → currentBytes P d f i (n + k) ≡ currentBytes P d f i n ++ currentBytes P d f (i + n) k
+  current-join i zero k = let e : zero + k ≡ k = omega arith in let z : i + 0 ≡ i = omega arith in rw (e, z)
+  current-join i (suc n) k =
+      let e : suc n + k ≡ suc (n + k) = omega arith in
+      let z : suc i + n ≡ i + suc n = omega arith in
+      rw (e, ← z) (ap (λ l. currentAt P d f i ∷ l) (current-join (suc i) n k))

@@ -1,15 +1,20 @@
 -- What a look hands back: current bytes, from its position on.
 use mathlib.Core.Path.{_≡_, sym, ap, _∙_}
 use mathlib.Core.Logic.{_≢_}
-use mathlib.Core.List.{List, []}
+use mathlib.Core.List.{List, [], _∷_}
+use mathlib.Core.Bool.{true, false≢true}
 use Prim.Native.Nat.{ℕ, _+_, _/_, _%_, _≤_, _<_}
 use native.Mathlib.Nat.{le-trans}
 use native.Mathlib.Omega.{arith}
 use lib.ListN.{length, getD, length-take}
-use lib.Dec.{leb}
+use lib.Dec.{leb, eqb}
 use borrow.Author.Tests.{ne-eqb, lt-ltb, le-ltb}
-use Rattle.answer.specs.Coded.{Coded, refused, done}
-use Rattle.answer.specs.Admission.{ifDone}
+use borrow.Table.Steps.{cases}
+use Rattle.answer.specs.Coded.{Coded, refused, done, codedRefusal}
+use Rattle.answer.specs.Admission.{ifDone, Test, firstRefusal}
+use Rattle.answer.proofs.Admission.{Changeless, first-by, if-refused, passed, first-all}
+use Rattle.answer.proofs.Coded.{refusal-number}
+use Rattle.answer.specs.declared.Refusal.{Refusal}
 use Rattle.memory.specs.Bytes.{part}
 use Rattle.memory.proofs.Cases.{split-lt}
 use Rattle.memory.proofs.Bytes.{length-part, getD-part}
@@ -19,7 +24,6 @@ use Rattle.device.specs.Device.{Device, slotCount, framesBytes, frameSta
 use Rattle.device.specs.Current.{currentAt}
 use Rattle.device.specs.Admission.{mediaShape, framesShape, sizesFit, stateTests, fileTests}
 use Rattle.device.specs.Looking.{toPageEnd, lookCount, lookedAt, look}
-use Rattle.answer.proofs.Admission.{Changeless, first-by}
 use Rattle.device.proofs.Admission.{Admitted, file-changeless, file-admitted}
 use Rattle.device.proofs.Current.{current-cached, current-media, current-zero}
 use Rattle.device.proofs.Sound.{Fit}
@@ -108,3 +112,35 @@ module _ (P : ℕ) (d : Device) (f position : ℕ) where
       (omega (arith, file-end P f hf, x .bytes, x .sizes .floor-logical f hf, x .sizes .logical-fits f hf)) in
       current-zero P d f (position + k) (position / pageBytes) (omega arith) l (omega arith))
       (λ h. current-zero P d f (position + k) (position / pageBytes) (omega arith) l (omega arith)))
+
+-- ---- the ends of a look
+
+first-other : (ts : List Test) (a : Coded) (x : Refusal) → codedRefusal x ≡ firstRefusal ts (done 0) → codedRefusal x ≡ firstRefusal ts a
+first-other [] a x e = absurd (false≢true (sym (refusal-number x) ∙ ap (λ (c : Coded). eqb (c .number) 0) e))
+first-other (t ∷ ts) a x e = cases (t .holds) (λ h. rw h (first-other ts a x (rw h at e))) (λ h. rw h (rw h at e))
+
+module _ (P f position : ℕ) (d : Device) where
+  pub look-refused : (x : Refusal) → codedRefusal x ≡ firstRefusal (fileTests P d f (leb position (fileBytes P))) (done 0) → [] ≡ look P f position d
+  unfolding look lookCount
+  look-refused x e = sym (if-refused (lookCount P f position d) x (lookedAt P f position d) [] (first-other (fileTests P d f (leb position (fileBytes P))) (done (toPageEnd position (logicalAt d f))) x e))
+
+  pub count-refused : (x : Refusal) → codedRefusal x ≡ firstRefusal (fileTests P d f (leb position (fileBytes P))) (done 0) → codedRefusal x ≡ lookCount P f position d
+  unfolding lookCount
+  count-refused x e = first-other (fileTests P d f (leb position (fileBytes P))) (done (toPageEnd position (logicalAt d f))) x e
+
+  pub count-done : (n : ℕ) → passed (fileTests P d f (leb position (fileBytes P))) ≡ true → n ≡ toPageEnd position (logicalAt d f) → done n ≡ lookCount P f position d
+  unfolding lookCount
+  count-done n h e = rw e (sym (first-all (fileTests P d f (leb position (fileBytes P))) (done (toPageEnd position (logicalAt d f))) h))
+
+  module _ (h : passed (fileTests P d f (leb position (fileBytes P))) ≡ true) (k : ℕ) (e : k ≡ slotOf d f (position / pageBytes)) where
+    looked : look P f position d ≡ lookedAt P f position d
+    unfolding look lookCount
+    looked = rw (first-all (fileTests P d f (leb position (fileBytes P))) (done (toPageEnd position (logicalAt d f))) h)
+
+    pub look-cached : (n : ℕ) → k < slotCount → n ≡ toPageEnd position (logicalAt d f) → part (d .frames) (frameStart k + position % pageBytes) n ≡ look P f position d
+    unfolding lookedAt
+    look-cached n l en = let q : slotOf d f (position / pageBytes) < slotCount = omega arith in rw (en, e) (sym (looked ∙ rw (lt-ltb _ _ q)))
+
+    pub look-media : (n : ℕ) → slotCount ≤ k → n ≡ toPageEnd position (floorAt d f) → part (d .media .bytes) (fileStart P f + position) n ≡ look P f position d
+    unfolding lookedAt
+    look-media n l en = let q : slotCount ≤ slotOf d f (position / pageBytes) = omega arith in rw en (sym (looked ∙ rw (le-ltb _ _ q)))

@@ -2,6 +2,7 @@
 use mathlib.Core.Path.{_≡_, refl, _∙_}
 use mathlib.Core.Logic.{_≢_}
 use mathlib.Core.Bool.{true}
+use mathlib.Core.List.{List, [], map}
 use Prim.Native.Nat.{ℕ, _+_, _-_, _*_, _/_, _%_, _≤_, _<_, min}
 use native.Mathlib.Omega.{arith}
 use lib.Dec.{leb}
@@ -9,19 +10,25 @@ use lib.ListN.{length, getD, length-map, length-replicate}
 use lib.Seq.{getD-set-same, getD-set-other}
 use borrow.Table.Steps.{cases}
 use borrow.Author.Tests.{eq-eqb, ne-eqb, lt-ltb, le-ltb, le-leb, lt-leb, ltb-true}
-use Rattle.answer.specs.Coded.{refused, done}
+use Rattle.answer.specs.Coded.{refused, done, codedRefusal}
+use Rattle.answer.specs.Admission.{firstRefusal}
+use Rattle.answer.proofs.Admission.{passed}
+use Rattle.answer.specs.declared.Refusal.{Refusal}
 use Rattle.memory.specs.Bytes.{zeros, overwrite}
 use Rattle.memory.proofs.Cases.{split-lt, split-eq}
 use Rattle.memory.proofs.Bytes.{getD-zeros, length-overwrite, overwrite-before, overwrite-in}
 use Rattle.media.specs.Geometry.{files, pageBytes, fileBytes}
-use Rattle.device.specs.Device.{Device, slotCount, framesBytes, frameStart, slotOf, isCached, freeWhere, logicalAt, floorAt}
+use Rattle.device.specs.Device.{Device, slotCount, framesBytes, frameStart, slotOf, isCached, freeWhere, logicalAt, floorAt, deviceOf, withSlots}
 use Rattle.device.specs.Current.{frameByte, currentAt}
-use Rattle.device.specs.Admission.{Result, give}
+use Rattle.device.specs.Admission.{Result, give, fileTests}
 use Rattle.device.specs.Truncating.{pagesFrom, clearTail, withSizes, truncated, truncate}
 use Rattle.device.proofs.Device.{slot-gone, slot-stays, slots-apart, frame-other, Kept, kept-all}
 use Rattle.device.proofs.Current.{current-cached, current-zero, current-like}
-use Rattle.device.proofs.Admission.{Admitted, file-by}
+use Rattle.device.proofs.Admission.{Admitted, file-by, admit-refused, admit-passed}
 use Rattle.device.proofs.Sound.{Fit, freed-fit, sizes-fit}
+use Rattle.device.specs.Sizes.{truncatedSizes}
+use Rattle.device.specs.Sound.{sizesIn}
+use Rattle.device.specs.declared.CacheState.{CacheState}
 
 -- refused with everything as it came, or done
 pub truncate-by : (P f n : ℕ) (d : Device) (Q : Result Device → Type 0)
@@ -190,3 +197,27 @@ module _ (P : ℕ) (d : Device) (x : Fit P d) (frames : length (d .frames) ≡ f
       current-like P d (truncated f n d) g i es
       (λ l. rw es at (byte-kept g i (λ e. absurd (ne e)) (rw es l)))
       (λ l. omega arith) (λ l. omega arith) (rw truncated-media)
+
+-- ---- the ends of a truncate
+
+module _ (P f n : ℕ) (d : Device) where
+  pub truncate-refused : (x : Refusal) → codedRefusal x ≡ firstRefusal (fileTests P d f (leb n (fileBytes P))) (done 0) → give (codedRefusal x) d ≡ truncate P f n d
+  unfolding truncate
+  truncate-refused x e = admit-refused (fileTests P d f (leb n (fileBytes P))) d _ x e
+
+  pub truncate-done : (frames : List ℕ) (s : CacheState) → passed (fileTests P d f (leb n (fileBytes P))) ≡ true
+      → s ≡ withSizes f (truncatedSizes n (sizesIn [] (d .cache) f)) (withSlots (d .cache) (map (freeWhere (pagesFrom f n)) (d .cache .slots)))
+      → deviceOf (d .media) frames s ≡ clearTail f n (deviceOf (d .media) (d .frames) s)
+      → give (done 0) (deviceOf (d .media) frames s) ≡ truncate P f n d
+  unfolding truncate truncated withSizes
+  truncate-done frames s h es e = rw (e, es) (admit-passed (fileTests P d f (leb n (fileBytes P))) d _ h)
+
+module _ (d : Device) (f n k : ℕ) (e : k ≡ slotOf d f (n / pageBytes)) where
+  pub tail-cleared : (frames : List ℕ) → k < slotCount → frames ≡ overwrite (d .frames) (frameStart k + n % pageBytes) (zeros (pageBytes - n % pageBytes))
+      → deviceOf (d .media) frames (d .cache) ≡ clearTail f n d
+  unfolding clearTail
+  tail-cleared frames h ef = let l : slotOf d f (n / pageBytes) < slotCount = omega arith in rw (lt-ltb _ _ l, ← e, ef)
+
+  pub tail-none : slotCount ≤ k → d ≡ clearTail f n d
+  unfolding clearTail
+  tail-none h = let l : slotCount ≤ slotOf d f (n / pageBytes) = omega arith in rw (le-ltb _ _ l)

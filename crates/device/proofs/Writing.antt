@@ -5,32 +5,35 @@ use mathlib.Core.Bool.{Bool, true, false, cond}
 use mathlib.Core.List.{List, [], _∷_, _++_}
 use Prim.Native.Nat.{ℕ, zero, suc, _+_, _-_, _*_, _/_, _%_, _≤_, _<_, min, max}
 use native.Mathlib.Omega.{arith}
+use native.Mathlib.Nat.{add-zero}
 use lib.Dec.{leb, eqb}
 use lib.ListN.{length, getD, set, take, drop, length-take, length-drop, length-replicate}
-use native.Mathlib.Nat.{add-zero}
-use lib.Seq.{getD-take, getD-drop, drop-drop, getD-set-same, getD-set-other}
+use lib.Seq.{getD-take, getD-drop, drop-drop, getD-set-same, getD-set-other, take-all}
 use borrow.Author.Tests.{ltb-true, lt-ltb, le-ltb, eq-eqb, ne-eqb}
 use borrow.Table.Steps.{cases}
-use Rattle.answer.specs.Coded.{refused, done, NO-ROOM}
-use Rattle.answer.specs.Admission.{Test, test}
+use Rattle.answer.specs.Coded.{refused, done, NO-ROOM, codedRefusal}
+use Rattle.answer.specs.Admission.{Test, test, firstRefusal}
+use Rattle.answer.proofs.Admission.{passed-at, passed-first, passed-rest, passed, passed-join, first-all, first-join, first-refused}
+use Rattle.answer.specs.declared.Refusal.{Refusal}
+use Rattle.answer.specs.declared.Refusal.the-variants.{NoRoom}
 use Rattle.memory.specs.Bytes.{part, overwrite}
 use Rattle.memory.proofs.Cases.{split-lt, split-eq}
 use Rattle.memory.proofs.Bytes.{getD-zeros, length-part, getD-part, length-overwrite, overwrite-none, overwrite-before, overwrite-in, overwrite-after}
 use Rattle.media.specs.Geometry.{files, pageBytes, fileBytes, mediaBytes, pageStart}
-use Rattle.media.specs.Write.{byteAt}
+use Rattle.media.specs.Write.{byteAt, Media}
 use Rattle.media.proofs.Geometry.{file-end, page-end}
 use Rattle.device.specs.declared.Slot.{Slot}
 use Rattle.device.specs.Scan.{firstIndex}
-use Rattle.device.specs.Device.{Device, slotCount, framesBytes, frameStart, freeSlot, isFree, holds, slotOf, isCached, firstFree, logicalAt, floorAt}
+use Rattle.device.specs.Device.{Device, slotCount, framesBytes, frameStart, freeSlot, isFree, holds, slotOf, isCached, firstFree, logicalAt, floorAt, deviceOf, withLogical}
 use Rattle.device.specs.Current.{frameByte, currentAt}
 use Rattle.device.specs.Admission.{Result, give, fileTests}
 use Rattle.device.specs.Writing.{hasSlot, blankPage, filledPage, cachePage, patchPage, putPage, Written, andMore, putPages, grown, hasRoom, write}
 use Rattle.device.proofs.Scan.{first-set, first-set-here}
 use Rattle.device.proofs.Device.{holds-one, free-holds, slots-apart, first-free-was-free, free-apart, frame-other, Kept, kept-all, kept-trans}
 use Rattle.device.proofs.Current.{current-cached, current-media, current-zero, current-same}
-use Rattle.device.proofs.Admission.{Admitted, admit-by, file-changeless, file-admitted}
-use Rattle.answer.proofs.Admission.{passed-at, passed-first, passed-rest}
+use Rattle.device.proofs.Admission.{Admitted, admit-by, file-changeless, file-admitted, admit-refused, admit-passed}
 use Rattle.device.proofs.Sound.{SlotsFit, SizesFit, Fit, take-fit, logical-fit}
+use Rattle.device.specs.declared.CacheState.{CacheState}
 
 -- ---- what page steps leave, of any device
 
@@ -521,3 +524,143 @@ module _ (P : ℕ) where
   unfolding grown
   grown-room f position w g at [] = refl
   grown-room f position w g at (b ∷ bs) = cases (eqb (w .count) 0) (λ e. rw e) (λ e. rw e)
+
+-- ---- one page of a write
+
+module _ (P f p : ℕ) (d : Device) where
+  -- the slot that the page has taken
+  pub cached-in : length (d .cache .slots) ≡ slotCount → slotCount ≤ slotOf d f p → firstFree d < slotCount → slotOf (cachePage P f p d) f p ≡ firstFree d
+  unfolding cachePage
+  cached-in l none room =
+      first-set-here (holds f p) (d .cache .slots) (firstFree d) (record { used = true; file = f; page = p })
+      (rw (eq-eqb f f refl, eq-eqb p p refl)) (omega arith) (omega arith)
+
+  -- the page is cached in slot k, and is patched there
+  pub put-cached-in : (k offset : ℕ) (bytes : List ℕ) → k ≡ slotOf d f p → k < slotCount
+      → deviceOf (d .media) (overwrite (d .frames) (frameStart k + offset) bytes) (d .cache) ≡ putPage P f p offset bytes d
+  unfolding putPage patchPage
+  put-cached-in k offset bytes e h = let l : slotOf d f p < slotCount = omega arith in rw (lt-ltb _ _ l, e)
+
+  pub put-new : (offset : ℕ) (bytes : List ℕ) → slotCount ≤ slotOf d f p → putPage P f p offset bytes d ≡ patchPage f p offset bytes (cachePage P f p d)
+  unfolding putPage
+  put-new offset bytes h = rw (le-ltb _ _ h)
+
+  -- a page with a slot that is not cached has a free slot
+  pub free-left : hasSlot d f p ≡ true → slotCount ≤ slotOf d f p → firstFree d < slotCount
+  free-left e h = ltb-true _ _ (rw (le-ltb _ _ h) at e)
+
+  -- the page has taken slot j, and is patched there
+  pub put-new-in : (m : Media) (frames : List ℕ) (s : CacheState) (j offset : ℕ) (bytes : List ℕ) → deviceOf m frames s ≡ cachePage P f p d → j ≡ firstFree d
+      → length (d .cache .slots) ≡ slotCount → slotCount ≤ slotOf d f p → firstFree d < slotCount
+      → deviceOf m (overwrite frames (frameStart j + offset) bytes) s ≡ putPage P f p offset bytes d
+  unfolding patchPage
+  put-new-in m frames s j offset bytes e ej l none room =
+      let q : firstIndex (holds f p) (s .slots) ≡ j = ap (λ (c : Device). slotOf c f p) e ∙ cached-in l none room ∙ sym ej in
+      rw (put-new offset bytes none, ← e, q)
+
+-- ---- the pages of a write
+
+module _ (P f : ℕ) where
+  -- nothing is left, or the page has no slot
+  pub pages-none : (n position : ℕ) (bytes : List ℕ) (d : Device) → length bytes ≡ 0 → putPages P f n position bytes d ≡ record { device = d; count = 0 }
+  pages-none zero position bytes d e = refl
+  pages-none (suc n) position [] d e = refl
+  pages-none (suc n) position (b ∷ bs) d e = absurd (omega arith)
+
+  pub pages-stop : (n position : ℕ) (bytes : List ℕ) (d : Device) → hasSlot d f (position / pageBytes) ≡ false → putPages P f n position bytes d ≡ record { device = d; count = 0 }
+  pages-stop zero position bytes d e = refl
+  pages-stop (suc n) position [] d e = refl
+  pages-stop (suc n) position (b ∷ bs) d e = rw e
+
+  -- a page takes its piece, of k bytes
+  pub pages-next : (n position : ℕ) (bytes : List ℕ) (d : Device) (k : ℕ) → 0 < length bytes → hasSlot d f (position / pageBytes) ≡ true
+      → k ≡ min (pageBytes - position % pageBytes) (length bytes)
+      → putPages P f (suc n) position bytes d
+      ≡ andMore k (putPages P f n (position + k) (drop k bytes) (putPage P f (position / pageBytes) (position % pageBytes) (take k bytes) d))
+  pages-next n position [] d k h e ek = absurd (omega arith)
+  pages-next n position (b ∷ bs) d k h e ek =
+      let m : ℕ = pageBytes - position % pageBytes in
+      let lt : length (take m (b ∷ bs)) ≡ min m (length (b ∷ bs)) = length-take m (b ∷ bs) in
+      split-lt m (length (b ∷ bs))
+      (λ l.
+      let q : k ≡ m = omega arith in
+      let r : length (take m (b ∷ bs)) ≡ m = omega arith in
+      let t : position + (pageBytes - position % pageBytes) ≡ pageBytes * suc (position / pageBytes) = omega arith in
+      rw (e, q, r, t))
+      (λ l.
+      let q : k ≡ length (b ∷ bs) = omega arith in
+      let a : take m (b ∷ bs) ≡ take k (b ∷ bs) = take-all m (b ∷ bs) l ∙ sym (take-all k (b ∷ bs) (omega arith)) in
+      let z : length (drop m (b ∷ bs)) ≡ 0 = length-drop m (b ∷ bs) ∙ omega arith in
+      let y : length (drop k (b ∷ bs)) ≡ 0 = length-drop k (b ∷ bs) ∙ omega arith in
+      rw (e, a, pages-none n _ (drop m (b ∷ bs)) _ z, pages-none n _ (drop k (b ∷ bs)) _ y, length-take k (b ∷ bs))
+      (ap (λ (j : ℕ). record { device = putPage P f (position / pageBytes) (position % pageBytes) (take k (b ∷ bs)) d; count = j + 0 }) (omega arith)))
+
+-- ---- the ends of a write
+
+-- no more bytes are put down than there are
+pub pages-most : (P f n position : ℕ) (bytes : List ℕ) (d : Device) → putPages P f n position bytes d .count ≤ length bytes
+pages-most P f zero position bytes d = omega arith
+pages-most P f (suc n) position [] d = omega arith
+pages-most P f (suc n) position (b ∷ bs) d =
+    let p : ℕ = position / pageBytes in
+    let m : ℕ = pageBytes - position % pageBytes in
+    let piece : List ℕ = take m (b ∷ bs) in
+    cases (hasSlot d f p)
+    (λ e. rw e
+    (omega (
+      arith,
+      length-take m (b ∷ bs),
+      length-drop m (b ∷ bs),
+      pages-most P f n (pageBytes * suc p) (drop m (b ∷ bs)) (putPage P f p (position % pageBytes) piece d),
+    )))
+    (λ e. rw e (omega arith))
+
+module _ (P f position : ℕ) (bytes : List ℕ) (d : Device) where
+  ts : List Test
+  ts = fileTests P d f (leb (position + length bytes) (fileBytes P))
+
+  room : List Test
+  room = test (hasRoom d f position bytes) NO-ROOM ∷ []
+
+  pub write-refused : (x : Refusal) → codedRefusal x ≡ firstRefusal (fileTests P d f (leb (position + length bytes) (fileBytes P))) (done 0)
+      → give (codedRefusal x) d ≡ write P f position bytes d
+  unfolding write ts room
+  write-refused x e = admit-refused (ts ++ room) d _ x (first-refused ts room (done 0) (done 0) x refl e)
+
+  room-of : 0 < length bytes → hasRoom d f position bytes ≡ hasSlot d f (position / pageBytes)
+  room-of h = go bytes h
+    where
+      go : (l : List ℕ) → 0 < length l → hasRoom d f position l ≡ hasSlot d f (position / pageBytes)
+      go [] h = absurd (omega arith)
+      go (b ∷ bs) h = refl
+
+  room-empty : length bytes ≡ 0 → hasRoom d f position bytes ≡ true
+  room-empty h = go bytes h
+    where
+      go : (l : List ℕ) → length l ≡ 0 → hasRoom d f position l ≡ true
+      go [] h = refl
+      go (b ∷ bs) h = absurd (omega arith)
+
+  module _ (h : passed (fileTests P d f (leb (position + length bytes) (fileBytes P))) ≡ true) where
+    all-passed : hasRoom d f position bytes ≡ true → passed (ts ++ room) ≡ true
+    unfolding ts room
+    all-passed e = passed-join ts room h (rw e)
+
+    pub write-full : 0 < length bytes → hasSlot d f (position / pageBytes) ≡ false → give NO-ROOM d ≡ write P f position bytes d
+    unfolding write ts room
+    write-full l e =
+        let q : hasRoom d f position bytes ≡ false = room-of l ∙ e in
+        admit-refused (ts ++ room) d _ NoRoom (sym (first-join ts room (done 0) ∙ first-all ts _ h ∙ rw q))
+
+    pub write-empty : length bytes ≡ 0 → give (done 0) d ≡ write P f position bytes d
+    unfolding write ts room grown
+    write-empty l = rw (pages-none P f P position bytes d l) (admit-passed (ts ++ room) d _ (all-passed (room-empty l)))
+
+    pub write-done : 0 < length bytes → hasSlot d f (position / pageBytes) ≡ true → 0 < P → (w : Written) → w ≡ putPages P f P position bytes d
+        → give (done (w .count)) (deviceOf (w .device .media) (w .device .frames) (withLogical (w .device .cache) f (max (logicalAt (w .device) f) (position + w .count))))
+        ≡ write P f position bytes d
+    unfolding write ts room grown
+    write-done l e hp w ew =
+        let q : hasRoom d f position bytes ≡ true = room-of l ∙ e in
+        let some : w .count ≢ 0 = λ z. absurd (omega (arith, write-some P f P position bytes d hp l q, ap (λ (v : Written). v .count) ew)) in
+        rw (← ew) (rw (ne-eqb _ _ some) (admit-passed (ts ++ room) d _ (all-passed q)))

@@ -97,6 +97,20 @@ overwrite-cut (x ∷ xs) zero [] h = refl
 overwrite-cut (x ∷ xs) zero (y ∷ ys) h =
     rw zero-add (ap (λ (l : List ℕ). y ∷ l) (rw zero-add at (overwrite-cut xs zero ys (omega arith))))
 
+-- one list after another
+pub overwrite-join : (xs ys zs : List ℕ) → overwrite xs 0 (ys ++ zs) ≡ overwrite (overwrite xs 0 ys) (length ys) zs
+overwrite-join [] ys zs = refl
+overwrite-join (x ∷ xs) [] zs = refl
+overwrite-join (x ∷ xs) (y ∷ ys) zs = ap (λ l. y ∷ l) (overwrite-join xs ys zs)
+
+-- zeros after what is laid over the front
+pub overwrite-pad : (xs ys : List ℕ) (n : ℕ) → n ≡ min (length xs) (length ys) → overwrite (overwrite xs 0 ys) n (zeros (length xs - n)) ≡ overwrite (zeros (length xs)) 0 ys
+overwrite-pad [] ys n e = refl
+overwrite-pad (x ∷ xs) [] zero e = rw sub-zero (overwrite-whole (x ∷ xs) (zeros (suc (length xs))) (length-replicate {A = ℕ} (suc (length xs)) 0))
+overwrite-pad (x ∷ xs) [] (suc n) e = absurd (omega arith)
+overwrite-pad (x ∷ xs) (y ∷ ys) zero e = absurd (omega arith)
+overwrite-pad (x ∷ xs) (y ∷ ys) (suc n) e = rw suc-sub-suc (ap (λ (l : List ℕ). y ∷ l) (overwrite-pad xs ys n (omega arith)))
+
 -- what a callee that borrowed `&mut xs[a..e]` left there, said of the whole
 pub put-back : (a e : ℕ) (xs ys : List ℕ) → length ys ≡ e - a → a ≤ e → e ≤ length xs → putMid a (e - a) xs ys ≡ overwrite xs a ys
 put-back a e xs ys h k l = rw (overwrite-cut xs a ys (omega arith), ← h, drop-drop)

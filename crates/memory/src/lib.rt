@@ -25,3 +25,12 @@ pub fn clear(dst: &mut [u8])
         i += 1;
     }
 }
+
+// The front of dst becomes the bytes of src, as far as both go, and the rest of it 0.
+pub fn copy_padded(dst: &mut [u8], src: &[u8])
+    ensures { λ r. ⌜ now (dst .exit) ≡ overwrite (zeros (length (now (dst .entry)))) 0 (now (src .entry)) ⌝ }
+{
+    let n = number::min(dst.len(), src.len());
+    copy(dst, src);
+    clear(&mut dst[n..]);
+}

@@ -1,17 +1,11 @@
-// The smaller, the larger and the difference of two numbers.
+// The smaller of two numbers, and their difference.
 ghost use mathlib.Core.Path.{_≡_};
-ghost use Prim.Native.Nat.{_-_, min, max};
+ghost use Prim.Native.Nat.{_-_, min};
 
 pub fn min(a: usize, b: usize) -> usize
     ensures { λ r. ⌜ r ≡ min a b ⌝ }
 {
     if a <= b { a } else { b }
-}
-
-pub fn max(a: usize, b: usize) -> usize
-    ensures { λ r. ⌜ r ≡ max a b ⌝ }
-{
-    if a <= b { b } else { a }
 }
 
 // a - b, or 0 where b is above a.

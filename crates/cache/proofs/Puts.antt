@@ -1,0 +1,61 @@
+-- A loop over the pages of a write.
+use mathlib.Core.Path.{_≡_, refl, sym, ap, _∙_}
+use mathlib.Core.Bool.{true, false}
+use mathlib.Core.List.{List}
+use Prim.Native.Nat.{ℕ, zero, suc, _+_, _<_, _≤_, _-_, _/_, _%_, min}
+use native.Mathlib.Omega.{arith}
+use lib.ListN.{length, drop, length-drop}
+use lib.Seq.{drop-drop}
+use Rattle.memory.specs.Bytes.{part}
+use Rattle.media.specs.Geometry.{pageBytes, fileBytes}
+use Rattle.device.specs.Writing.{hasSlot, putPage, andMore, putPages}
+use Rattle.device.specs.Device.{Device}
+use Rattle.device.proofs.Writing.{pages-none, pages-stop, pages-next}
+
+-- after i bytes of a write, in a loop: what is left of it
+pub record Rest (P f position : ℕ) (bytes : List ℕ) (before : Device) (i : ℕ) (d : Device) : Type 0 where
+  -- pages that it may still go through
+  pub turns : ℕ
+  pub enough : i < length bytes → P ≤ (position + i) / pageBytes + turns
+  pub so-far : putPages P f P position bytes before ≡ andMore i (putPages P f turns (position + i) (drop i bytes) d)
+
+module _ {P f position : ℕ} {bytes : List ℕ} {before : Device} where
+  pub rest-none : Rest P f position bytes before 0 before
+  rest-none = record {
+    turns = P;
+    enough = λ h. omega arith;
+    so-far = let e : position + 0 ≡ position = omega arith in rw e (ap (λ (j : ℕ). record { device = putPages P f P position bytes before .device; count = j }) (omega arith));
+  }
+
+  module _ {i : ℕ} {d : Device} (s : Rest P f position bytes before i d) where
+    pub rest-end : length bytes ≤ i → record { device = d; count = i } ≡ putPages P f P position bytes before
+    rest-end h =
+        sym (s .so-far ∙ rw (pages-none P f (s .turns) (position + i) (drop i bytes) d (length-drop i bytes ∙ omega arith))
+        (ap (λ (j : ℕ). record { device = d; count = j }) (omega arith)))
+
+    pub rest-stop : hasSlot d f ((position + i) / pageBytes) ≡ false → record { device = d; count = i } ≡ putPages P f P position bytes before
+    rest-stop e =
+        sym (s .so-far ∙ rw (pages-stop P f (s .turns) (position + i) (drop i bytes) d e)
+        (ap (λ (j : ℕ). record { device = d; count = j }) (omega arith)))
+
+    pub rest-next : (k : ℕ) (c : Device) → i < length bytes → position + length bytes ≤ fileBytes P → hasSlot d f ((position + i) / pageBytes) ≡ true
+        → k ≡ min (pageBytes - (position + i) % pageBytes) (length bytes - i)
+        → c ≡ putPage P f ((position + i) / pageBytes) ((position + i) % pageBytes) (part bytes i (i + k - i)) d
+        → Rest P f position bytes before (i + k) c
+    rest-next k c h fits e ek ec =
+        pick (s .turns) refl
+      where
+        ec′ : c ≡ putPage P f ((position + i) / pageBytes) ((position + i) % pageBytes) (part bytes i k) d
+        ec′ = let z : i + k - i ≡ k = omega arith in rw z at ec
+
+        pick : (n : ℕ) → s .turns ≡ n → Rest P f position bytes before (i + k) c
+        pick zero q = absurd (omega (arith, s .enough h))
+        pick (suc n) q =
+            let a : position + i + k ≡ position + (i + k) = omega arith in
+            let ld : length (drop i bytes) ≡ length bytes - i = length-drop i bytes in
+            record {
+              turns = n;
+              enough = λ l. omega (arith, s .enough h);
+              so-far = s .so-far ∙ rw (q, pages-next P f n (position + i) (drop i bytes) d k (omega arith) e (omega arith), ← ec′, drop-drop, a)
+                  (ap (λ (j : ℕ). record { device = putPages P f n (position + (i + k)) (drop (i + k) bytes) c .device; count = j }) (omega arith));
+            }

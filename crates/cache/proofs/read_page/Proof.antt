@@ -1,0 +1,152 @@
+use mathlib.Core.Path.{_≡_, _∙_, ap}
+use mathlib.Core.List.{List}
+use Prim.Native.Nat.{ℕ, _+_, _-_, _%_, _≤_, min}
+use native.Mathlib.Omega.{arith}
+use lib.ListN.{length, getD}
+use Rattle.memory.specs.Bytes.{zeros, part, overwrite}
+use Rattle.memory.proofs.Bytes.{length-part, overwrite-whole}
+use Rattle.media.specs.Geometry.{pageBytes, fileBytes, mediaBytes, fileStart}
+use Rattle.media.specs.Write.{mediaOf}
+use Rattle.media.proofs.Geometry.{file-end}
+use Rattle.device.specs.Device.{deviceOf, frameStart}
+use Rattle.device.proofs.Current.{bytes-cached, bytes-media}
+use borrow.Author.Needs.{needs}
+use Rattle.cache.proofs.read_page.Statement.{statement}
+use Rattle.cache.proofs.read_page.Tie as tie
+
+-- the file ends within the media
+ends : (c : tie.After-floors) → fileStart (c .before .before .before .before .before .before .args .pages) (c .before .before .before .before .before .before .args .file) + fileBytes (c .before .before .before .before .before .before .args .pages) ≤ mediaBytes (c .before .before .before .before .before .before .args .pages)
+ends c = file-end _ _ (omega arith)
+
+slot-of-requires : tie.Need-slot-of-requires
+slot-of-requires c κs = search needs
+
+mul-first : tie.Need-mul-first
+mul-first c = search needs
+
+add-first : tie.Need-add-first
+add-first c = search needs
+
+add-last : tie.Need-add-last
+add-last c = search needs
+
+sub-copy : tie.Need-sub-copy
+sub-copy c = search needs
+
+part-copy-start : tie.Need-part-copy-start
+part-copy-start c = search needs
+
+part-copy-end : tie.Need-part-copy-end
+part-copy-end c = search needs
+
+copy-requires : tie.Need-copy-requires
+copy-requires c κs = search needs
+
+mul-from : tie.Need-mul-from
+mul-from c = search needs
+
+mul-from-2 : tie.Need-mul-from-2
+unfolding fileStart
+mul-from-2 c = omega (arith, ends c)
+
+add-from : tie.Need-add-from
+unfolding fileStart
+add-from c = omega (arith, ends c)
+
+mul-saturating-sub : tie.Need-mul-saturating-sub
+mul-saturating-sub c = search needs
+
+array-read-saturating-sub : tie.Need-array-read-saturating-sub
+array-read-saturating-sub c = search needs
+
+cast-saturating-sub : tie.Need-cast-saturating-sub
+cast-saturating-sub c = search needs
+
+saturating-sub-requires : tie.Need-saturating-sub-requires
+saturating-sub-requires c κs = search needs
+
+min-requires : tie.Need-min-requires
+min-requires c κs = search needs
+
+add-end : tie.Need-add-end
+unfolding fileStart
+add-end c = omega (arith, ends (c .before .before))
+
+sub-copy-padded : tie.Need-sub-copy-padded
+sub-copy-padded c = search needs
+
+part-copy-padded-start : tie.Need-part-copy-padded-start
+part-copy-padded-start c = search needs
+
+part-copy-padded-end : tie.Need-part-copy-padded-end
+unfolding fileStart
+part-copy-padded-end c = omega (arith, ends (c .before .before .before))
+
+copy-padded-requires : tie.Need-copy-padded-requires
+copy-padded-requires c κs = search needs
+
+same-length : tie.Need-same-length
+same-length c = search needs
+
+returns : tie.Need-returns
+returns c =
+    let p = c .before .before in
+    let s = p .before .before .before .before in
+    let a = s .before .before .before .before .args in
+    let n : ℕ = length (a .buffer .now) in
+    let first : ℕ = frameStart (s .slot-of .result) + a .at % pageBytes in
+    let e : first + n - first ≡ n = omega arith in
+    let l : length (part (a .frames .now) first n) ≡ n = length-part (a .frames .now) first n (omega arith) in
+    λ stored.
+    p .copy .ensures
+    ∙ ap (λ (j : ℕ). overwrite (a .buffer .now) 0 (part (a .frames .now) first j)) e
+    ∙ overwrite-whole (a .buffer .now) (part (a .frames .now) first n) l
+    ∙ bytes-cached (a .pages) (deviceOf (mediaOf (a .media .now) stored) (a .frames .now) (a .cache)) (a .file) (a .at) n _ (s .slot-of .ensures) (omega arith) (omega arith) (omega arith)
+
+same-length-2 : tie.Need-same-length-2
+same-length-2 c = search needs
+
+returns-2 : tie.Need-returns-2
+unfolding fileStart
+returns-2 c =
+    let p = c .before .before in
+    let m = p .before .before .before in
+    let s = m .before .before .before .before in
+    let a = s .before .before .before .before .args in
+    let n : ℕ = length (a .buffer .now) in
+    let from : ℕ = fileStart (a .pages) (a .file) + a .at in
+    let e : from + m .min .result - from ≡ min n (getD (a .cache .floor) (a .file) 0 - a .at) = omega arith in
+    λ stored.
+    p .copy-padded .ensures
+    ∙ ap (λ (j : ℕ). overwrite (zeros n) 0 (part (a .media .now) from j)) e
+    ∙ bytes-media (a .pages) (deviceOf (mediaOf (a .media .now) stored) (a .frames .now) (a .cache)) (a .file) (a .at) n _ (s .slot-of .ensures) (omega arith) (omega arith) (omega arith) (omega arith) (omega arith)
+
+pub read-page-spec : {M : Type 1} → statement M
+read-page-spec =
+    tie.close
+    (tie.spec
+    slot-of-requires
+    mul-first
+    add-first
+    add-last
+    sub-copy
+    part-copy-start
+    part-copy-end
+    copy-requires
+    mul-from
+    mul-from-2
+    add-from
+    mul-saturating-sub
+    array-read-saturating-sub
+    cast-saturating-sub
+    saturating-sub-requires
+    min-requires
+    add-end
+    sub-copy-padded
+    part-copy-padded-start
+    part-copy-padded-end
+    copy-padded-requires
+    same-length
+    returns
+    same-length-2
+    returns-2)

@@ -1,0 +1,38 @@
+use mathlib.Core.Path.{sym, _∙_}
+use borrow.Author.Tests.{le-leb, lt-leb}
+use Rattle.device.specs.Sizes.{sizesTests, sizesAnswer, sizesAfter}
+use borrow.Author.Needs.{needs}
+use Rattle.cache.proofs.sizes_after.Statement.{statement}
+use Rattle.cache.proofs.sizes_after.Tie as tie
+
+in-order-requires : tie.Need-in-order-requires
+in-order-requires c κs = search needs
+
+cast-truncated-sizes : tie.Need-cast-truncated-sizes
+cast-truncated-sizes c = search needs
+
+truncated-sizes-requires : tie.Need-truncated-sizes-requires
+truncated-sizes-requires c κs = search needs
+
+returns : tie.Need-returns
+unfolding sizesTests sizesAnswer sizesAfter
+returns c = rw (sym (c .before .before .before .in-order .ensures) ∙ c .before .before .if1 .taken, le-leb _ _ (c .before .if2 .taken)) (c .truncated-sizes .ensures)
+
+returns-2 : tie.Need-returns-2
+unfolding sizesTests sizesAnswer sizesAfter
+returns-2 c = rw (sym (c .before .before .in-order .ensures) ∙ c .before .if1 .taken, lt-leb _ _ (c .if2 .left))
+
+returns-3 : tie.Need-returns-3
+unfolding sizesTests sizesAnswer sizesAfter
+returns-3 c = rw (sym (c .before .in-order .ensures) ∙ c .if1 .left)
+
+pub sizes-after-spec : {M : Type 1} → statement M
+sizes-after-spec =
+    tie.close
+    (tie.spec
+    in-order-requires
+    cast-truncated-sizes
+    truncated-sizes-requires
+    returns
+    returns-2
+    returns-3)

@@ -1,0 +1,24 @@
+use borrow.Author.Tests.{le-leb, lt-leb}
+use mathlib.Core.Path.{sym, _∙_}
+use Rattle.device.specs.Sizes.{sizesTests, sizesAnswer}
+use borrow.Author.Needs.{needs}
+use Rattle.cache.proofs.sizes_answer.Statement.{statement}
+use Rattle.cache.proofs.sizes_answer.Tie as tie
+
+in-order-requires : tie.Need-in-order-requires
+in-order-requires c κs = search needs
+
+returns : tie.Need-returns
+unfolding sizesTests sizesAnswer
+returns c = rw (sym (c .before .before .in-order .ensures) ∙ c .before .if1 .taken, le-leb _ _ (c .if2 .taken))
+
+returns-2 : tie.Need-returns-2
+unfolding sizesTests sizesAnswer
+returns-2 c = rw (sym (c .before .before .in-order .ensures) ∙ c .before .if1 .taken, lt-leb _ _ (c .if2 .left))
+
+returns-3 : tie.Need-returns-3
+unfolding sizesTests sizesAnswer
+returns-3 c = rw (sym (c .before .in-order .ensures) ∙ c .if1 .left)
+
+pub sizes-answer-spec : {M : Type 1} → statement M
+sizes-answer-spec = tie.close (tie.spec in-order-requires returns returns-2 returns-3)

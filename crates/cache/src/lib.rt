@@ -1,0 +1,513 @@
+// The page cache: read, write, truncate and look over the pages that are cached, and all calls in one place.
+//
+// A call borrows the media (bytes and stored sizes), the page frames, and buffers of its own; the cache state goes in by value
+// and comes back. Start with `down_state` and a mount.
+use answer::Answer;
+use answer::Refusal;
+pub use cache_state::down_state;
+pub use device::CacheState;
+pub use device::FileSizes;
+pub use device::Outcome;
+pub use device::SLOTS;
+pub use device::Slot;
+use media::PAGE_BYTES;
+use media::PAGES_PER_FILE;
+ghost use mathlib.Core.Path.{_≡_};
+ghost use mathlib.Core.Bool.{true};
+ghost use mathlib.Core.List.{List, [], map};
+ghost use Prim.Native.Nat.{_+_, _-_, _*_, _≤_, _<_, _^_, ℕ, min, _%_, max};
+ghost use lib.ListN.{length, getD};
+ghost use lib.Dec.{leb};
+ghost use Rattle.answer.specs.Coded.{coded};
+ghost use Rattle.memory.specs.Bytes.{part, overwrite};
+ghost use Rattle.media.specs.Geometry.{files, fileBytes, mediaBytes, pageBytes, pageStart, pagesPerFile};
+ghost use Rattle.media.specs.Write.{mediaOf};
+ghost use Rattle.device.specs.Scan.{firstIndex};
+ghost use Rattle.device.specs.Device.{freeWhere, withLogical, withSlots, deviceOf, slotCount, framesBytes, isFree};
+ghost use Rattle.device.specs.Current.{currentBytes};
+ghost use Rattle.device.specs.Admission.{give};
+ghost use Rattle.device.specs.Sound.{sizesIn};
+ghost use Rattle.device.specs.Sizes.{truncatedSizes, sizesAnswer, sizesAfter};
+ghost use Rattle.device.specs.Reading.{read};
+ghost use Rattle.device.specs.Writing.{hasSlot, blankPage, cachePage, putPage, putPages, write};
+ghost use Rattle.device.specs.Truncating.{pagesFrom, clearTail, withSizes, truncate};
+ghost use Rattle.device.specs.Looking.{toPageEnd, lookCount, look};
+
+// The current bytes of a file from `at` on, within one page, fill the buffer.
+fn read_page(
+    media: &[u8],
+    frames: &[u8],
+    cache: CacheState,
+    file: usize,
+    at: usize,
+    buffer: &mut [u8],
+    pages: usize,
+)
+    requires { ⌜ (fileBytes pages < 2 ^ 32) × (length (now media) ≡ mediaBytes pages) × (length (now frames) ≡ framesBytes) × (file < files)
+        × (at + length (now buffer) ≤ fileBytes pages) × (at % pageBytes + length (now buffer) ≤ pageBytes) ⌝ }
+    ensures { λ r. ⌜ ((stored : List ℕ) → now (buffer .exit)
+        ≡ currentBytes pages (deviceOf (mediaOf (now (media .entry)) stored) (now (frames .entry)) cache) file at (length (now (buffer .entry)))) ⌝ }
+{
+    let n = buffer.len();
+    let k = cache_state::slot_of(cache, file, at / PAGE_BYTES);
+    if k < SLOTS {
+        let first = PAGE_BYTES * k + at % PAGE_BYTES;
+        let last = first + n;
+        memory::copy(buffer, &frames[first..last]);
+    } else {
+        let floors = cache.floor;
+        let from = file * (PAGE_BYTES * pages) + at;
+        let end = from + number::min(n, number::saturating_sub(floors[file] as usize, at));
+        memory::copy_padded(buffer, &media[from..end]);
+    }
+}
+
+// `count` current bytes of a file from a position on fill the front of the buffer.
+fn read_pages(
+    media: &[u8],
+    frames: &[u8],
+    cache: CacheState,
+    file: usize,
+    position: usize,
+    count: usize,
+    buffer: &mut [u8],
+    pages: usize,
+)
+    requires { ⌜ (fileBytes pages < 2 ^ 32) × (length (now media) ≡ mediaBytes pages) × (length (now frames) ≡ framesBytes) × (file < files)
+        × (position + count ≤ fileBytes pages) × (count ≤ length (now buffer)) ⌝ }
+    ensures { λ r. ⌜ ((stored : List ℕ) → now (buffer .exit)
+        ≡ overwrite (now (buffer .entry)) 0 (currentBytes pages (deviceOf (mediaOf (now (media .entry)) stored) (now (frames .entry)) cache) file position count)) ⌝ }
+{
+    let mut i = 0;
+    while i < count {
+        let at = position + i;
+        let to = i + number::min(PAGE_BYTES - at % PAGE_BYTES, count - i);
+        read_page(media, frames, cache, file, at, &mut buffer[i..to], pages);
+        i = to;
+    }
+}
+
+// Read: copies as many bytes as the buffer takes, up to the logical size.
+pub fn read(
+    media: &[u8],
+    sizes: &[u32],
+    frames: &[u8],
+    cache: CacheState,
+    file: usize,
+    position: usize,
+    buffer: &mut [u8],
+) -> Answer
+    ensures { λ r. ⌜ give (coded r) (now (buffer .exit))
+        ≡ read pagesPerFile file position (now (buffer .entry)) (deviceOf (mediaOf (now (media .entry)) (now (sizes .entry))) (now (frames .entry)) cache) ⌝ }
+{
+    let file_len = PAGE_BYTES * PAGES_PER_FILE;
+    let admission = cache_state::admit(media, sizes, frames, cache, file, position <= file_len);
+    match admission {
+        Answer::Refused(refusal) => Answer::Refused(refusal),
+        Answer::Done(_) => {
+            let logicals = cache.logical;
+            let count = number::min(
+                buffer.len(),
+                number::saturating_sub(logicals[file] as usize, position),
+            );
+            read_pages(
+                media,
+                frames,
+                cache,
+                file,
+                position,
+                count,
+                buffer,
+                PAGES_PER_FILE,
+            );
+            Answer::Done(count)
+        }
+    }
+}
+
+// A page as it becomes cached: a blank page, overlaid with the bytes of the media below the floor.
+fn filled_page(media: &[u8], floor: usize, file: usize, page: usize, pages: usize) -> [u8; 256]
+    requires { ⌜ (fileBytes pages < 2 ^ 32) × (length (now media) ≡ mediaBytes pages) × (file < files) × (page < pages) ⌝ }
+    ensures { λ r. ⌜ r ≡ overwrite blankPage 0 (part (now (media .entry)) (pageStart pages file page) (min pageBytes (floor - pageBytes * page))) ⌝ }
+{
+    let at = PAGE_BYTES * page;
+    let from = file * (PAGE_BYTES * pages) + at;
+    let end = from + number::min(PAGE_BYTES, number::saturating_sub(floor, at));
+    let mut blank = [0u8; 256];
+    memory::copy(&mut blank, &media[from..end]);
+    blank
+}
+
+// The bytes are laid over the page frames from `at` on.
+fn patch_frames(frames: &mut [u8], at: usize, bytes: &[u8])
+    requires { ⌜ (length (now frames) ≡ framesBytes) × (at + length (now bytes) ≤ framesBytes) ⌝ }
+    ensures { λ r. ⌜ now (frames .exit) ≡ overwrite (now (frames .entry)) at (now (bytes .entry)) ⌝ }
+{
+    let end = at + bytes.len();
+    memory::copy(&mut frames[at..end], bytes);
+}
+
+// A page becomes cached, in slot k, the first that is free.
+fn cache_page(
+    media: &[u8],
+    frames: &mut [u8],
+    cache: CacheState,
+    file: usize,
+    page: usize,
+    k: usize,
+    pages: usize,
+) -> CacheState
+    requires { ⌜ (fileBytes pages < 2 ^ 16) × (length (now media) ≡ mediaBytes pages) × (length (now frames) ≡ framesBytes) × (file < files) × (page < pages)
+        × (k ≡ firstIndex isFree (cache .slots)) × (k < slotCount) ⌝ }
+    ensures { λ r. ⌜ ((stored : List ℕ) → deviceOf (mediaOf (now (media .entry)) stored) (now (frames .exit)) r
+        ≡ cachePage pages file page (deviceOf (mediaOf (now (media .entry)) stored) (now (frames .entry)) cache)) ⌝ }
+{
+    let floors = cache.floor;
+    let bytes = filled_page(media, floors[file] as usize, file, page, pages);
+    patch_frames(frames, PAGE_BYTES * k, &bytes);
+    let mut next = cache;
+    next.slots[k] = Slot {
+        used: true,
+        file: file as u8,
+        page: page as u8,
+    };
+    next
+}
+
+// One page of a write: it becomes cached where it is not, and takes its piece.
+fn put_page(
+    media: &[u8],
+    frames: &mut [u8],
+    cache: CacheState,
+    file: usize,
+    page: usize,
+    offset: usize,
+    bytes: &[u8],
+    pages: usize,
+) -> CacheState
+    requires { ⌜ (fileBytes pages < 2 ^ 16) × (length (now media) ≡ mediaBytes pages) × (length (now frames) ≡ framesBytes) × (file < files) × (page < pages)
+        × (hasSlot (deviceOf (mediaOf [] []) [] cache) file page ≡ true) × (offset + length (now bytes) ≤ pageBytes) ⌝ }
+    ensures { λ r. ⌜ ((stored : List ℕ) → deviceOf (mediaOf (now (media .entry)) stored) (now (frames .exit)) r
+        ≡ putPage pages file page offset (now (bytes .entry)) (deviceOf (mediaOf (now (media .entry)) stored) (now (frames .entry)) cache)) ⌝ }
+{
+    let k = cache_state::slot_of(cache, file, page);
+    if k < SLOTS {
+        patch_frames(frames, PAGE_BYTES * k + offset, bytes);
+        return cache;
+    }
+    let j = cache_state::first_free(cache);
+    let next = cache_page(media, frames, cache, file, page, j, pages);
+    patch_frames(frames, PAGE_BYTES * j + offset, bytes);
+    next
+}
+
+// Whether a page is cached, or there is a slot for it.
+fn has_slot(cache: CacheState, file: usize, page: usize) -> bool
+    ensures { λ r. ⌜ r ≡ hasSlot (deviceOf (mediaOf [] []) [] cache) file page ⌝ }
+{
+    if cache_state::slot_of(cache, file, page) < SLOTS {
+        return true;
+    }
+    cache_state::first_free(cache) < SLOTS
+}
+
+struct Put {
+    cache: CacheState,
+    count: usize,
+}
+
+// The pages of a write, ascending, until one has no slot. Each takes the piece that begins where the page before stopped.
+fn put_pages(
+    media: &[u8],
+    frames: &mut [u8],
+    cache: CacheState,
+    file: usize,
+    position: usize,
+    bytes: &[u8],
+    pages: usize,
+) -> Put
+    requires { ⌜ (fileBytes pages < 2 ^ 16) × (length (now media) ≡ mediaBytes pages) × (length (now frames) ≡ framesBytes) × (file < files)
+        × (position + length (now bytes) ≤ fileBytes pages) ⌝ }
+    ensures { λ r. ⌜ ((stored : List ℕ) → record { device = deviceOf (mediaOf (now (media .entry)) stored) (now (frames .exit)) (r .cache); count = r .count }
+        ≡ putPages pages file pages position (now (bytes .entry)) (deviceOf (mediaOf (now (media .entry)) stored) (now (frames .entry)) cache)) ⌝ }
+{
+    let mut state = cache;
+    let mut from = 0;
+    while from < bytes.len() {
+        let page = (position + from) / PAGE_BYTES;
+        let offset = (position + from) % PAGE_BYTES;
+        if has_slot(state, file, page) {
+            let to = from + number::min(PAGE_BYTES - offset, bytes.len() - from);
+            state = put_page(
+                media,
+                frames,
+                state,
+                file,
+                page,
+                offset,
+                &bytes[from..to],
+                pages,
+            );
+            from = to;
+        } else {
+            return Put {
+                cache: state,
+                count: from,
+            };
+        }
+    }
+    Put {
+        cache: state,
+        count: from,
+    }
+}
+
+// Whether position + n is at most the limit, the sum taken exactly.
+fn sum_fits(position: usize, n: usize, limit: usize) -> bool
+    ensures { λ r. ⌜ r ≡ leb (position + n) limit ⌝ }
+{
+    if n <= limit {
+        return position <= limit - n;
+    }
+    false
+}
+
+// The state where file `file` is at least n bytes long.
+fn grow(cache: CacheState, file: usize, n: usize) -> CacheState
+    requires { ⌜ (file < files) × (n < 2 ^ 32) ⌝ }
+    ensures { λ r. ⌜ r ≡ withLogical cache file (max (getD (cache .logical) file 0) n) ⌝ }
+{
+    let logicals = cache.logical;
+    let mut next = cache;
+    next.logical[file] = larger(logicals[file], n as u32);
+    next
+}
+
+fn larger(a: u32, b: u32) -> u32
+    ensures { λ r. ⌜ r ≡ max a b ⌝ }
+{
+    if a <= b { b } else { a }
+}
+
+// Write: goes through the pages in ascending order until one has no slot.
+pub fn write(
+    media: &[u8],
+    sizes: &[u32],
+    frames: &mut [u8],
+    cache: CacheState,
+    file: usize,
+    position: usize,
+    bytes: &[u8],
+) -> Outcome
+    ensures { λ r. ⌜ give (coded (r .answer)) (deviceOf (mediaOf (now (media .entry)) (now (sizes .entry))) (now (frames .exit)) (r .cache))
+        ≡ write pagesPerFile file position (now (bytes .entry)) (deviceOf (mediaOf (now (media .entry)) (now (sizes .entry))) (now (frames .entry)) cache) ⌝ }
+{
+    let in_range = sum_fits(position, bytes.len(), PAGE_BYTES * PAGES_PER_FILE);
+    let admission = cache_state::admit(media, sizes, frames, cache, file, in_range);
+    match admission {
+        Answer::Refused(refusal) => Outcome {
+            answer: Answer::Refused(refusal),
+            cache,
+        },
+        Answer::Done(_) => {
+            if bytes.len() == 0 {
+                return Outcome {
+                    answer: Answer::Done(0),
+                    cache,
+                };
+            }
+            if has_slot(cache, file, position / PAGE_BYTES) {
+                let put = put_pages(media, frames, cache, file, position, bytes, PAGES_PER_FILE);
+                let count = put.count;
+                let state = put.cache;
+                return Outcome {
+                    answer: Answer::Done(count),
+                    cache: grow(state, file, position + count),
+                };
+            }
+            Outcome {
+                answer: Answer::Refused(Refusal::NoRoom),
+                cache,
+            }
+        }
+    }
+}
+
+// The truncate rule on the sizes of one file: the floor is the smallest so far.
+fn truncated_sizes(s: FileSizes, n: u32) -> FileSizes
+    ensures { λ r. ⌜ r ≡ truncatedSizes n s ⌝ }
+{
+    if s.floor <= n {
+        return FileSizes {
+            logical: n,
+            floor: s.floor,
+            stored: s.stored,
+        };
+    }
+    FileSizes {
+        logical: n,
+        floor: n,
+        stored: s.stored,
+    }
+}
+
+// The state after a truncate of a file to n bytes. It has no part in the stored size.
+fn truncated_state(cache: CacheState, file: usize, n: usize) -> CacheState
+    requires { ⌜ (file < files) × (n < 2 ^ 32) ⌝ }
+    ensures { λ r. ⌜ r ≡ withSizes file (truncatedSizes n (sizesIn [] cache file)) (withSlots cache (map (freeWhere (pagesFrom file n)) (cache .slots))) ⌝ }
+{
+    let logicals = cache.logical;
+    let floors = cache.floor;
+    let sizes = FileSizes {
+        logical: logicals[file],
+        floor: floors[file],
+        stored: 0,
+    };
+    let after = truncated_sizes(sizes, n as u32);
+    let mut next = cache_state::free_pages_from(cache, file, n);
+    next.logical[file] = after.logical;
+    next.floor[file] = after.floor;
+    next
+}
+
+// The cached page that n falls inside gets zeros from n on.
+fn clear_tail(frames: &mut [u8], cache: CacheState, file: usize, n: usize)
+    requires { ⌜ length (now frames) ≡ framesBytes ⌝ }
+    ensures { λ r. ⌜ ((bytes stored : List ℕ) → deviceOf (mediaOf bytes stored) (now (frames .exit)) cache ≡ clearTail file n (deviceOf (mediaOf bytes stored) (now (frames .entry)) cache)) ⌝ }
+{
+    let k = cache_state::slot_of(cache, file, n / PAGE_BYTES);
+    if k < SLOTS {
+        let from = PAGE_BYTES * k + n % PAGE_BYTES;
+        let end = PAGE_BYTES * k + PAGE_BYTES;
+        memory::clear(&mut frames[from..end]);
+    }
+}
+
+// Truncate: the file has n bytes after it.
+pub fn truncate(
+    media: &[u8],
+    sizes: &[u32],
+    frames: &mut [u8],
+    cache: CacheState,
+    file: usize,
+    n: usize,
+) -> Outcome
+    ensures { λ r. ⌜ give (coded (r .answer)) (deviceOf (mediaOf (now (media .entry)) (now (sizes .entry))) (now (frames .exit)) (r .cache))
+        ≡ truncate pagesPerFile file n (deviceOf (mediaOf (now (media .entry)) (now (sizes .entry))) (now (frames .entry)) cache) ⌝ }
+{
+    let file_len = PAGE_BYTES * PAGES_PER_FILE;
+    let admission = cache_state::admit(media, sizes, frames, cache, file, n <= file_len);
+    match admission {
+        Answer::Refused(refusal) => Outcome {
+            answer: Answer::Refused(refusal),
+            cache,
+        },
+        Answer::Done(_) => {
+            let next = truncated_state(cache, file, n);
+            clear_tail(frames, next, file, n);
+            Outcome {
+                answer: Answer::Done(0),
+                cache: next,
+            }
+        }
+    }
+}
+
+// The answer of the truncate rule on the sizes of one file.
+fn sizes_answer(s: FileSizes, n: usize, greatest: u32) -> Answer
+    ensures { λ r. ⌜ coded r ≡ sizesAnswer greatest n s ⌝ }
+{
+    let g = greatest as usize;
+    if cache_state::in_order(s, g) {
+        if n <= g {
+            return Answer::Done(0);
+        }
+        return Answer::Refused(Refusal::Range);
+    }
+    Answer::Refused(Refusal::Books)
+}
+
+// The sizes of one file after the truncate rule.
+fn sizes_after(s: FileSizes, n: usize, greatest: u32) -> FileSizes
+    ensures { λ r. ⌜ r ≡ sizesAfter greatest n s ⌝ }
+{
+    let g = greatest as usize;
+    if cache_state::in_order(s, g) {
+        if n <= g {
+            return truncated_sizes(s, n as u32);
+        }
+    }
+    s
+}
+
+// The truncate rule on a record that is borrowed to be altered, told the greatest file size.
+pub fn truncate_sizes(sizes: &mut FileSizes, n: usize, greatest: u32) -> Answer
+    ensures { λ r. ⌜ (coded r ≡ sizesAnswer greatest n (now (sizes .entry))) × (now (sizes .exit) ≡ sizesAfter greatest n (now (sizes .entry))) ⌝ }
+{
+    let old = *sizes;
+    *sizes = sizes_after(old, n, greatest);
+    sizes_answer(old, n, greatest)
+}
+
+// From the position to the end of its page or to the limit, the nearer; 0 at or past the limit.
+fn to_page_end(position: usize, limit: usize) -> usize
+    ensures { λ r. ⌜ r ≡ toPageEnd position limit ⌝ }
+{
+    number::min(
+        PAGE_BYTES - position % PAGE_BYTES,
+        number::saturating_sub(limit, position),
+    )
+}
+
+// Look: a part of the page frames or of the media.
+pub fn look<'a>(
+    media: &'a [u8],
+    sizes: &[u32],
+    frames: &'a [u8],
+    cache: CacheState,
+    file: usize,
+    position: usize,
+) -> &'a [u8]
+    ensures { λ r. ⌜ now r ≡ look pagesPerFile file position (deviceOf (mediaOf (now (media .entry)) (now (sizes .entry))) (now (frames .entry)) cache) ⌝ }
+{
+    let file_len = PAGE_BYTES * PAGES_PER_FILE;
+    let admission = cache_state::admit(media, sizes, frames, cache, file, position <= file_len);
+    match admission {
+        Answer::Refused(_) => &media[..0],
+        Answer::Done(_) => {
+            let k = cache_state::slot_of(cache, file, position / PAGE_BYTES);
+            if k < SLOTS {
+                let logicals = cache.logical;
+                let from = PAGE_BYTES * k + position % PAGE_BYTES;
+                let end = from + to_page_end(position, logicals[file] as usize);
+                return &frames[from..end];
+            }
+            let floors = cache.floor;
+            let from = file * file_len + position;
+            let end = from + to_page_end(position, floors[file] as usize);
+            &media[from..end]
+        }
+    }
+}
+
+// The count of a look: from the position to the end of its page or to the logical size, the nearer.
+pub fn look_count(
+    media: &[u8],
+    sizes: &[u32],
+    frames: &[u8],
+    cache: CacheState,
+    file: usize,
+    position: usize,
+) -> Answer
+    ensures { λ r. ⌜ coded r ≡ lookCount pagesPerFile file position (deviceOf (mediaOf (now (media .entry)) (now (sizes .entry))) (now (frames .entry)) cache) ⌝ }
+{
+    let file_len = PAGE_BYTES * PAGES_PER_FILE;
+    let admission = cache_state::admit(media, sizes, frames, cache, file, position <= file_len);
+    match admission {
+        Answer::Refused(refusal) => Answer::Refused(refusal),
+        Answer::Done(_) => {
+            let logicals = cache.logical;
+            Answer::Done(to_page_end(position, logicals[file] as usize))
+        }
+    }
+}
