@@ -54,13 +54,13 @@ pub fn first_free(cache: CacheState) -> usize
     ensures { λ r. ⌜ r ≡ firstIndex isFree (cache .slots) ⌝ }
 {
     let slots = cache.slots;
-    let mut i = 0;
-    while i < device::SLOTS {
-        let s = slots[i];
+    let mut k = 0;
+    while k < device::SLOTS {
+        let s = slots[k];
         if !s.used {
-            return i;
+            return k;
         }
-        i += 1;
+        k += 1;
     }
     device::SLOTS
 }

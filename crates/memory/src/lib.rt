@@ -30,7 +30,7 @@ pub fn clear(dst: &mut [u8])
 pub fn copy_padded(dst: &mut [u8], src: &[u8])
     ensures { λ r. ⌜ now (dst .exit) ≡ overwrite (zeros (length (now (dst .entry)))) 0 (now (src .entry)) ⌝ }
 {
-    let n = number::min(dst.len(), src.len());
+    let copied = number::min(src.len(), dst.len());
     copy(dst, src);
-    clear(&mut dst[n..]);
+    clear(&mut dst[copied..]);
 }

@@ -28,8 +28,8 @@ returns c =
     let l = c .before .before .before .before in
     searched-here freeSlot (l .loop .inv .0) (omega arith) (c .if1 .taken)
 
-add-i : tie.Need-add-i Inv-loop μ-loop
-add-i c = search needs
+add-k : tie.Need-add-k Inv-loop μ-loop
+add-k c = search needs
 
 loop-less : tie.Need-loop-less Inv-loop μ-loop
 loop-less c = search needs
@@ -53,7 +53,7 @@ first-free-spec =
     mul-s
     array-copy-out-s
     returns
-    add-i
+    add-k
     loop-less
     loop-again
     returns-2)

@@ -12,11 +12,11 @@ use Rattle.memory.proofs.copy_padded.Statement.{statement}
 use Rattle.memory.proofs.copy_padded.Tie as tie
 
 -- what copy left, with its rest cleared
-padded : (n : ℕ) (xs ys src zs : List ℕ) → ys ≡ overwrite xs 0 src → n ≡ min (length xs) (length src)
+padded : (n : ℕ) (xs ys src zs : List ℕ) → ys ≡ overwrite xs 0 src → n ≡ min (length src) (length xs)
     → zs ≡ zeros (length (part ys n (length ys - n))) → putMid n (length ys - n) ys zs ≡ overwrite (zeros (length xs)) 0 src
 padded n xs ys src zs e h z =
     let l : length ys ≡ length xs = ap length e ∙ length-overwrite xs 0 src in
-    put-zeros n (length ys) ys zs z (omega arith) (omega arith) ∙ rw (l, e) (overwrite-pad xs src n h)
+    put-zeros n (length ys) ys zs z (omega arith) (omega arith) ∙ rw (l, e) (overwrite-pad xs src n (omega arith))
 
 min-requires : tie.Need-min-requires
 min-requires c κs = search needs

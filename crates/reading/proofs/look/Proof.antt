@@ -12,8 +12,8 @@ use Rattle.device.proofs.Admission.{file-passed, file-refused, file-ready}
 use Rattle.device.proofs.Sound.{sound-sizes}
 use Rattle.device.proofs.Looking.{look-refused, look-cached, look-media}
 use borrow.Author.Needs.{needs}
-use Rattle.cache.proofs.look.Statement.{statement}
-use Rattle.cache.proofs.look.Tie as tie
+use Rattle.reading.proofs.look.Statement.{statement}
+use Rattle.reading.proofs.look.Tie as tie
 
 abbrev device : tie.Start → Device
 device c = deviceOf (mediaOf (c .args .media .now) (c .args .sizes .now)) (c .args .frames .now) (c .args .cache)

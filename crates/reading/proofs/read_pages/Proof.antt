@@ -11,8 +11,8 @@ use Rattle.memory.proofs.Bytes.{overwrite-none}
 use Rattle.media.specs.Write.{mediaOf}
 use Rattle.device.specs.Device.{deviceOf}
 use Rattle.device.specs.Current.{currentBytes}
-use Rattle.cache.proofs.read_pages.Statement.{statement}
-use Rattle.cache.proofs.read_pages.Tie as tie
+use Rattle.reading.proofs.read_pages.Statement.{statement}
+use Rattle.reading.proofs.read_pages.Tie as tie
 
 abbrev Inv-loop : tie.InvT-loop
 Inv-loop media frames cache file position count buffer₀ pages i₀ buffer i = ((stored : List ℕ) → buffer ≡ overwrite buffer₀ 0 (currentBytes pages (deviceOf (mediaOf media stored) frames cache) file position i)) × (i ≤ count) × (length buffer ≡ length buffer₀)

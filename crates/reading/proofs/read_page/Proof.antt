@@ -11,8 +11,8 @@ use Rattle.media.proofs.Geometry.{file-end}
 use Rattle.device.specs.Device.{deviceOf, frameStart}
 use Rattle.device.proofs.Current.{bytes-cached, bytes-media}
 use borrow.Author.Needs.{needs}
-use Rattle.cache.proofs.read_page.Statement.{statement}
-use Rattle.cache.proofs.read_page.Tie as tie
+use Rattle.reading.proofs.read_page.Statement.{statement}
+use Rattle.reading.proofs.read_page.Tie as tie
 
 -- the file ends within the media
 ends : (c : tie.After-floors) → fileStart (c .before .before .before .before .before .before .args .pages) (c .before .before .before .before .before .before .args .file) + fileBytes (c .before .before .before .before .before .before .args .pages) ≤ mediaBytes (c .before .before .before .before .before .before .args .pages)

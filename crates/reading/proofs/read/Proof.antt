@@ -10,8 +10,8 @@ use Rattle.device.proofs.Admission.{file-passed, file-refused, file-ready}
 use Rattle.device.proofs.Sound.{sound-sizes}
 use Rattle.device.proofs.Reading.{read-refused, read-done}
 use borrow.Author.Needs.{needs}
-use Rattle.cache.proofs.read.Statement.{statement}
-use Rattle.cache.proofs.read.Tie as tie
+use Rattle.reading.proofs.read.Statement.{statement}
+use Rattle.reading.proofs.read.Tie as tie
 
 -- the device at the start
 device : tie.Start → Device

@@ -7,8 +7,8 @@ use Rattle.device.proofs.Admission.{Admitted}
 use Rattle.device.proofs.Admission.{file-passed, file-refused, file-ready}
 use Rattle.device.proofs.Looking.{count-refused, count-done}
 use borrow.Author.Needs.{needs}
-use Rattle.cache.proofs.look_count.Statement.{statement}
-use Rattle.cache.proofs.look_count.Tie as tie
+use Rattle.reading.proofs.look_count.Statement.{statement}
+use Rattle.reading.proofs.look_count.Tie as tie
 
 abbrev device : tie.Start → Device
 device c = deviceOf (mediaOf (c .args .media .now) (c .args .sizes .now)) (c .args .frames .now) (c .args .cache)
