@@ -182,10 +182,10 @@ fn holds_alone(cache: CacheState, k: usize) -> bool
 fn slots_alone(cache: CacheState) -> bool
     ensures { λ r. ⌜ r ≡ everyBelow slotCount (holdsAlone (cache .slots)) ⌝ }
 {
-    let mut k = 0;
-    while k < device::SLOTS {
-        if holds_alone(cache, k) {
-            k += 1;
+    let mut i = 0;
+    while i < device::SLOTS {
+        if holds_alone(cache, i) {
+            i += 1;
         } else {
             return false;
         }

@@ -1,5 +1,6 @@
-use Rattle.device.specs.Writing.{filledPage, cachePage}
+-- `cache::cache_page` meets its contract: the slot k was the first free one.
 use borrow.Author.Needs.{needs}
+use Rattle.device.specs.Writing.{filledPage, cachePage}
 use Rattle.cache.proofs.cache_page.Statement.{statement}
 use Rattle.cache.proofs.cache_page.Tie as tie
 

@@ -1,13 +1,14 @@
-use Prim.Native.Nat.{ℕ, _+_, _-_, _%_}
+-- `cache::clear_tail` meets its contract: the page is cached and its tail cleared, or it is not.
 use mathlib.Core.Path.{_≡_, _∙_, ap}
+use Prim.Native.Nat.{ℕ, _+_, _-_, _%_}
 use native.Mathlib.Omega.{arith}
+use borrow.Author.Needs.{needs}
 use Rattle.memory.specs.Bytes.{zeros, overwrite}
 use Rattle.memory.proofs.Bytes.{put-zeros}
 use Rattle.media.specs.Geometry.{pageBytes}
 use Rattle.media.specs.Write.{mediaOf}
 use Rattle.device.specs.Device.{deviceOf, frameStart}
 use Rattle.device.proofs.Truncating.{tail-cleared, tail-none}
-use borrow.Author.Needs.{needs}
 use Rattle.cache.proofs.clear_tail.Statement.{statement}
 use Rattle.cache.proofs.clear_tail.Tie as tie
 

@@ -1,11 +1,12 @@
+-- `cache::filled_page` meets its contract: the part of the media below the floor is laid over zeros.
 use mathlib.Core.Path.{_≡_, _∙_, ap}
 use Prim.Native.Nat.{ℕ, _+_, _*_, _-_, _≤_, min}
 use native.Mathlib.Omega.{arith}
+use borrow.Author.Needs.{needs}
 use Rattle.memory.specs.Bytes.{part, overwrite}
 use Rattle.media.specs.Geometry.{pageBytes, fileBytes, mediaBytes, fileStart, pageStart}
 use Rattle.media.proofs.Geometry.{file-end}
 use Rattle.device.specs.Writing.{blankPage}
-use borrow.Author.Needs.{needs}
 use Rattle.cache.proofs.filled_page.Statement.{statement}
 use Rattle.cache.proofs.filled_page.Tie as tie
 

@@ -1,3 +1,4 @@
+-- `cache::grow` meets its contract: the larger size is set.
 use borrow.Author.Needs.{needs}
 use Rattle.cache.proofs.grow.Statement.{statement}
 use Rattle.cache.proofs.grow.Tie as tie

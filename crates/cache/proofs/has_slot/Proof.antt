@@ -1,9 +1,10 @@
-use borrow.Author.Tests.{lt-ltb, le-ltb}
+-- `cache::has_slot` meets its contract: by cases of the two searches.
 use Prim.Native.Nat.{_<_, _≤_}
 use native.Mathlib.Omega.{arith}
+use borrow.Author.Tests.{lt-ltb, le-ltb}
+use borrow.Author.Needs.{needs}
 use Rattle.device.specs.Scan.{firstIndex}
 use Rattle.device.specs.Device.{slotCount, holds}
-use borrow.Author.Needs.{needs}
 use Rattle.cache.proofs.has_slot.Statement.{statement}
 use Rattle.cache.proofs.has_slot.Tie as tie
 

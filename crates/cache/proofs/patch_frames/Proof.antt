@@ -1,8 +1,9 @@
-use lib.ListN.{length}
+-- `cache::patch_frames` meets its contract: the part of the frames takes the bytes.
 use Prim.Native.Nat.{_+_}
 use native.Mathlib.Omega.{arith}
-use Rattle.memory.proofs.Bytes.{put-copy}
+use lib.ListN.{length}
 use borrow.Author.Needs.{needs}
+use Rattle.memory.proofs.Bytes.{put-copy}
 use Rattle.cache.proofs.patch_frames.Statement.{statement}
 use Rattle.cache.proofs.patch_frames.Tie as tie
 

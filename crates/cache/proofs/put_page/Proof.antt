@@ -1,14 +1,15 @@
+-- `cache::put_page` meets its contract: the page is cached, or becomes cached in the first free slot.
 use mathlib.Core.Path.{_≡_}
 use mathlib.Core.List.{[]}
 use Prim.Native.Nat.{_<_, _≤_}
 use native.Mathlib.Omega.{arith}
 use lib.ListN.{length}
+use borrow.Author.Needs.{needs}
 use Rattle.media.specs.Write.{mediaOf}
 use Rattle.device.specs.Scan.{firstIndex}
 use Rattle.device.specs.Device.{deviceOf, slotCount, isFree, holds}
 use Rattle.device.proofs.Loops.{length-mapped}
 use Rattle.device.proofs.Writing.{put-cached-in, put-new-in, free-left}
-use borrow.Author.Needs.{needs}
 use Rattle.cache.proofs.put_page.Statement.{statement}
 use Rattle.cache.proofs.put_page.Tie as tie
 

@@ -1,9 +1,10 @@
-use borrow.Author.Needs.{needs}
+-- `cache::put_pages` meets its contract: what is still to be put from here gives what was to be put at the start.
 use mathlib.Core.Path.{_≡_, sym, _∙_}
 use mathlib.Core.List.{List}
 use Prim.Native.Nat.{ℕ, _-_, _≤_}
 use native.Mathlib.Omega.{arith}
 use lib.ListN.{length}
+use borrow.Author.Needs.{needs}
 use Rattle.media.specs.Write.{mediaOf}
 use Rattle.device.specs.Device.{deviceOf}
 use Rattle.cache.proofs.Puts.{Rest, rest-none, rest-end, rest-stop, rest-next}

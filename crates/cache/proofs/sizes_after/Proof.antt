@@ -1,7 +1,8 @@
+-- `cache::sizes_after` meets its contract: the tests in the order of the definition.
 use mathlib.Core.Path.{sym, _∙_}
 use borrow.Author.Tests.{le-leb, lt-leb}
-use Rattle.device.specs.Sizes.{sizesTests, sizesAnswer, sizesAfter}
 use borrow.Author.Needs.{needs}
+use Rattle.device.specs.Sizes.{sizesTests, sizesAnswer, sizesAfter}
 use Rattle.cache.proofs.sizes_after.Statement.{statement}
 use Rattle.cache.proofs.sizes_after.Tie as tie
 

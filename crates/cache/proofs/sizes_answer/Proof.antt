@@ -1,7 +1,8 @@
-use borrow.Author.Tests.{le-leb, lt-leb}
+-- `cache::sizes_answer` meets its contract: the tests in the order of the definition.
 use mathlib.Core.Path.{sym, _∙_}
-use Rattle.device.specs.Sizes.{sizesTests, sizesAnswer}
+use borrow.Author.Tests.{le-leb, lt-leb}
 use borrow.Author.Needs.{needs}
+use Rattle.device.specs.Sizes.{sizesTests, sizesAnswer}
 use Rattle.cache.proofs.sizes_answer.Statement.{statement}
 use Rattle.cache.proofs.sizes_answer.Tie as tie
 

@@ -1,3 +1,4 @@
+-- `cache::sum_fits` meets its contract: n is moved over to the other side.
 use mathlib.Core.Path.{_≡_}
 use Prim.Native.Nat.{ℕ, _+_, _-_, _<_, _≤_}
 use native.Mathlib.Omega.{arith}

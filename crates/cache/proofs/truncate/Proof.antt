@@ -1,14 +1,14 @@
+-- `cache::truncate` meets its contract: refused as `admit` says, or the state and the tail.
 use Prim.Native.Nat.{_≤_}
 use native.Mathlib.Omega.{arith}
 use lib.Dec.{leb}
 use borrow.Author.Tests.{leb-true}
+use borrow.Author.Needs.{needs}
 use Rattle.media.specs.Geometry.{pagesPerFile, fileBytes}
 use Rattle.media.specs.Write.{mediaOf}
 use Rattle.device.specs.Device.{Device, deviceOf}
-use Rattle.device.proofs.Admission.{Admitted}
-use Rattle.device.proofs.Admission.{file-passed, file-refused, file-ready}
+use Rattle.device.proofs.Admission.{Admitted, file-passed, file-refused, file-ready}
 use Rattle.device.proofs.Truncating.{truncate-refused, truncate-done}
-use borrow.Author.Needs.{needs}
 use Rattle.cache.proofs.truncate.Statement.{statement}
 use Rattle.cache.proofs.truncate.Tie as tie
 

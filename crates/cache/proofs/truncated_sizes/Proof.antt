@@ -1,3 +1,4 @@
+-- `cache::truncated_sizes` meets its contract: by cases: the floor stays, or becomes n.
 use mathlib.Core.Path.{ap}
 use Prim.Native.Nat.{ℕ}
 use native.Mathlib.Omega.{arith}

@@ -1,5 +1,6 @@
-use Rattle.device.specs.Truncating.{withSizes}
+-- `cache::truncated_state` meets its contract: slots, then sizes.
 use borrow.Author.Needs.{needs}
+use Rattle.device.specs.Truncating.{withSizes}
 use Rattle.cache.proofs.truncated_state.Statement.{statement}
 use Rattle.cache.proofs.truncated_state.Tie as tie
 

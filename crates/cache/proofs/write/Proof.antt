@@ -1,3 +1,4 @@
+-- `cache::write` meets its contract: refused, empty, without room, or put down page by page.
 use mathlib.Core.Path.{_≡_, sym, _∙_, ap}
 use mathlib.Core.Bool.{Bool, true}
 use Prim.Native.Nat.{_+_, _≤_}
@@ -5,18 +6,17 @@ use native.Mathlib.Omega.{arith}
 use lib.Dec.{leb}
 use lib.ListN.{length}
 use borrow.Author.Tests.{leb-true}
+use borrow.Author.Needs.{needs}
 use Rattle.answer.specs.Coded.{coded, done}
 use Rattle.answer.specs.Admission.{firstRefusal}
+use Rattle.answer.proofs.Admission.{passed}
 use Rattle.media.specs.Geometry.{pagesPerFile, fileBytes}
 use Rattle.media.specs.Write.{mediaOf}
 use Rattle.device.specs.Device.{Device, deviceOf}
 use Rattle.device.specs.Admission.{fileTests}
 use Rattle.device.specs.Writing.{Written}
-use Rattle.answer.proofs.Admission.{passed}
-use Rattle.device.proofs.Admission.{Admitted}
-use Rattle.device.proofs.Admission.{file-passed, file-refused, file-ready}
+use Rattle.device.proofs.Admission.{Admitted, file-passed, file-refused, file-ready}
 use Rattle.device.proofs.Writing.{pages-most, write-refused, write-empty, write-full, write-done}
-use borrow.Author.Needs.{needs}
 use Rattle.cache.proofs.write.Statement.{statement}
 use Rattle.cache.proofs.write.Tie as tie
 

@@ -1,11 +1,12 @@
+-- `cache_state::admit` meets its contract: a refusal of `admit_device` stands; or else `admit_state` decides.
 use mathlib.Core.Path.{refl, _∙_}
 use mathlib.Core.List.{List}
+use borrow.Author.Needs.{needs}
 use Rattle.answer.specs.Admission.{Test}
 use Rattle.answer.proofs.Admission.{then-refused, then-rest}
 use Rattle.media.specs.Geometry.{pagesPerFile}
 use Rattle.media.specs.Write.{mediaOf}
 use Rattle.device.specs.Admission.{mediaShape, framesShape, sizesFit, stateTests, deviceTests}
-use borrow.Author.Needs.{needs}
 use Rattle.cache_state.proofs.admit.Statement.{statement}
 use Rattle.cache_state.proofs.admit.Tie as tie
 

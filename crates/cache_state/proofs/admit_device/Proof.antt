@@ -1,6 +1,7 @@
+-- `cache_state::admit_device` meets its contract: all wrong lengths are SHAPE, so their order makes no difference.
 use mathlib.Core.Path.{_∙_}
-use Rattle.device.proofs.Admission.{frames-refused, frames-passed}
 use borrow.Author.Needs.{needs}
+use Rattle.device.proofs.Admission.{frames-refused, frames-passed}
 use Rattle.cache_state.proofs.admit_device.Statement.{statement}
 use Rattle.cache_state.proofs.admit_device.Tie as tie
 

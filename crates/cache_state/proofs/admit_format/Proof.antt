@@ -1,6 +1,9 @@
+-- `cache_state::admit_format` meets its contract: the tests in the order of the definition.
+use lib.ListN.{length}
 use borrow.Author.Tests.{eq-eqb, ne-eqb}
-use Rattle.device.specs.Admission.{mediaShape}
 use borrow.Author.Needs.{needs}
+use Rattle.media.specs.Geometry.{files, pagesPerFile, mediaBytes}
+use Rattle.device.specs.Admission.{mediaShape}
 use Rattle.cache_state.proofs.admit_format.Statement.{statement}
 use Rattle.cache_state.proofs.admit_format.Tie as tie
 
@@ -12,11 +15,11 @@ mul-if1 c = search needs
 
 returns : tie.Need-returns
 unfolding mediaShape
-returns c = rw (ne-eqb _ _ (c .if1 .taken))
+returns c = rw (ne-eqb (length (c .before .args .media .now)) (mediaBytes pagesPerFile) (c .if1 .taken))
 
 returns-2 : tie.Need-returns-2
 unfolding mediaShape
-returns-2 c = rw (eq-eqb _ _ (c .before .if1 .left), ne-eqb _ _ (c .if2 .taken))
+returns-2 c = rw (eq-eqb _ _ (c .before .if1 .left), ne-eqb (length (c .before .before .args .sizes .now)) files (c .if2 .taken))
 
 returns-3 : tie.Need-returns-3
 unfolding mediaShape

@@ -1,10 +1,11 @@
+-- `cache_state::admit_mount` meets its contract: a refusal of `admit_format` stands; or else MEDIA is tested.
 use mathlib.Core.Path.{refl, sym, _∙_}
+use borrow.Author.Needs.{needs}
 use Rattle.answer.proofs.Admission.{then-refused, then-rest}
 use Rattle.media.specs.Geometry.{pagesPerFile}
 use Rattle.media.specs.Write.{Media, mediaOf}
 use Rattle.device.specs.Admission.{mediaShape, sizesFit}
 use Rattle.device.proofs.Admission.{fit-done, fit-refused}
-use borrow.Author.Needs.{needs}
 use Rattle.cache_state.proofs.admit_mount.Statement.{statement}
 use Rattle.cache_state.proofs.admit_mount.Tie as tie
 

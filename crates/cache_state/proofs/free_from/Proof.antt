@@ -1,8 +1,16 @@
+-- `cache_state::free_from` meets its contract: by cases of its three tests.
+use Prim.Native.Nat.{_*_, _≤_}
+use native.Mathlib.Omega.{arith}
 use borrow.Author.Tests.{eq-eqb, ne-eqb, le-leb, lt-leb}
-use Rattle.device.specs.Device.{freeWhere}
 use borrow.Author.Needs.{needs}
+use Rattle.media.specs.Geometry.{pageBytes}
+use Rattle.device.specs.Device.{freeWhere}
 use Rattle.cache_state.proofs.free_from.Statement.{statement}
 use Rattle.cache_state.proofs.free_from.Tie as tie
+
+-- what the last test shows
+past : (c : tie.Then3) → c .before .before .before .before .before .args .n ≤ pageBytes * c .before .before .before .before .before .args .s .page
+past c = omega arith
 
 cast-f : tie.Need-cast-f
 cast-f c = search needs
@@ -18,7 +26,7 @@ free-slot-requires c κs = search needs
 
 returns : tie.Need-returns
 unfolding freeWhere
-returns c = let b = c .before in rw (b .before .before .if1 .taken, eq-eqb _ _ (b .before .if2 .taken), le-leb _ _ (b .if3 .taken)) (c .free-slot .ensures)
+returns c = let b = c .before in rw (b .before .before .if1 .taken, eq-eqb _ _ (b .before .if2 .taken), le-leb _ _ (past b)) (c .free-slot .ensures)
 
 returns-2 : tie.Need-returns-2
 unfolding freeWhere

@@ -1,9 +1,10 @@
-use borrow.Author.Needs.{needs}
+-- `cache_state::free_pages_from` meets its contract: the slots before i are mapped, the others as they came.
 use mathlib.Core.Path.{_≡_, refl, _∙_, ap}
 use mathlib.Core.List.{List, _++_, map}
 use Prim.Native.Nat.{_≤_, _-_}
 use native.Mathlib.Omega.{arith}
 use lib.ListN.{length, take, drop, set}
+use borrow.Author.Needs.{needs}
 use Rattle.device.specs.declared.Slot.{Slot}
 use Rattle.device.specs.Device.{slotCount, freeWhere, freeSlot, withSlots}
 use Rattle.device.specs.Truncating.{pagesFrom}

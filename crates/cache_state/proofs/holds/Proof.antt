@@ -1,3 +1,4 @@
+-- `cache_state::holds` meets its contract: by cases of its three tests.
 use borrow.Author.Tests.{eq-eqb, ne-eqb}
 use borrow.Author.Needs.{needs}
 use Rattle.cache_state.proofs.holds.Statement.{statement}

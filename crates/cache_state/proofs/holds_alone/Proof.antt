@@ -1,5 +1,6 @@
-use Rattle.device.specs.Sound.{holdsAlone}
+-- `cache_state::holds_alone` meets its contract: by cases: used or free.
 use borrow.Author.Needs.{needs}
+use Rattle.device.specs.Sound.{holdsAlone}
 use Rattle.cache_state.proofs.holds_alone.Statement.{statement}
 use Rattle.cache_state.proofs.holds_alone.Tie as tie
 

@@ -1,20 +1,27 @@
+-- `cache_state::in_order` meets its contract: by cases of the tests.
 use mathlib.Core.Bool.{and-true}
+use Prim.Native.Nat.{_≤_}
+use native.Mathlib.Omega.{arith}
 use borrow.Author.Tests.{le-leb, lt-leb}
-use Rattle.device.specs.Sizes.{inOrder}
 use borrow.Author.Needs.{needs}
+use Rattle.device.specs.Sizes.{inOrder}
 use Rattle.cache_state.proofs.in_order.Statement.{statement}
 use Rattle.cache_state.proofs.in_order.Tie as tie
+
+-- what the first test shows
+low : (c : tie.Then1) → c .before .before .before .args .s .floor ≤ c .before .before .before .args .s .logical
+low c = omega arith
 
 cast-l : tie.Need-cast-l
 cast-l c = search needs
 
 returns : tie.Need-returns
 unfolding inOrder
-returns c = rw (le-leb _ _ (c .before .before .if1 .taken), le-leb _ _ (c .before .if2 .taken), and-true)
+returns c = rw (le-leb _ _ (low (c .before .before)), le-leb _ _ (c .before .if2 .taken), and-true)
 
 returns-2 : tie.Need-returns-2
 unfolding inOrder
-returns-2 c = rw (le-leb _ _ (c .before .if1 .taken), lt-leb _ _ (c .if2 .left))
+returns-2 c = rw (le-leb _ _ (low (c .before)), lt-leb _ _ (c .if2 .left))
 
 returns-3 : tie.Need-returns-3
 unfolding inOrder

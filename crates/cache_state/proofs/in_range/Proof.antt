@@ -1,6 +1,7 @@
+-- `cache_state::in_range` meets its contract: by cases of the tests.
 use borrow.Author.Tests.{eq-eqb, ne-eqb, lt-ltb, le-ltb}
-use Rattle.device.specs.Sound.{inRange}
 use borrow.Author.Needs.{needs}
+use Rattle.device.specs.Sound.{inRange}
 use Rattle.cache_state.proofs.in_range.Statement.{statement}
 use Rattle.cache_state.proofs.in_range.Tie as tie
 

@@ -1,7 +1,8 @@
+-- `cache_state::is_down` meets its contract: by cases of the tests.
 use mathlib.Core.Path.{sym, _∙_}
 use mathlib.Core.Bool.{and-true}
-use Rattle.device.specs.Sound.{isDown}
 use borrow.Author.Needs.{needs}
+use Rattle.device.specs.Sound.{isDown}
 use Rattle.cache_state.proofs.is_down.Statement.{statement}
 use Rattle.cache_state.proofs.is_down.Tie as tie
 

@@ -1,3 +1,4 @@
+-- `cache_state::mounted_state` meets its contract: its slots are free ones.
 use borrow.Author.Needs.{needs}
 use Rattle.cache_state.proofs.mounted_state.Statement.{statement}
 use Rattle.cache_state.proofs.mounted_state.Tie as tie

@@ -1,8 +1,9 @@
-use borrow.Author.Needs.{needs}
+-- `cache_state::sizes_fit` meets its contract: all sizes before i fit.
 use Prim.Native.Nat.{_≤_, _-_}
 use native.Mathlib.Omega.{arith}
 use lib.Dec.{leb}
 use lib.ListN.{length}
+use borrow.Author.Needs.{needs}
 use borrow.Author.Tests.{le-leb, lt-leb}
 use Rattle.device.proofs.Loops.{Checked, checked-none, checked-stop, checked-next, checked-end}
 use Rattle.cache_state.proofs.sizes_fit.Statement.{statement}

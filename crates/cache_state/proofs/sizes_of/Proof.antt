@@ -1,3 +1,4 @@
+-- `cache_state::sizes_of` meets its contract: field by field.
 use borrow.Author.Needs.{needs}
 use Rattle.cache_state.proofs.sizes_of.Statement.{statement}
 use Rattle.cache_state.proofs.sizes_of.Tie as tie

@@ -1,18 +1,19 @@
-use Rattle.device.specs.Device.{slotCount}
-use borrow.Author.Needs.{needs}
+-- `cache_state::slots_alone` meets its contract: all slots below i pass.
 use mathlib.Core.Path.{sym, _∙_}
 use Prim.Native.Nat.{_≤_, _-_}
 use native.Mathlib.Omega.{arith}
+use borrow.Author.Needs.{needs}
+use Rattle.device.specs.Device.{slotCount}
 use Rattle.device.specs.Sound.{holdsAlone}
 use Rattle.device.proofs.Loops.{Below, below-none, below-stop, below-next, below-end}
 use Rattle.cache_state.proofs.slots_alone.Statement.{statement}
 use Rattle.cache_state.proofs.slots_alone.Tie as tie
 
 abbrev Inv-loop : tie.InvT-loop
-Inv-loop cache k₀ k = Below (holdsAlone (cache .slots)) k × (k ≤ slotCount)
+Inv-loop cache i₀ i = Below (holdsAlone (cache .slots)) i × (i ≤ slotCount)
 
 abbrev μ-loop : tie.MeasureT-loop
-μ-loop cache k₀ k = slotCount - k
+μ-loop cache i₀ i = slotCount - i
 
 loop-holds : tie.Need-loop-holds Inv-loop μ-loop
 loop-holds c = (below-none, search needs)
@@ -20,8 +21,8 @@ loop-holds c = (below-none, search needs)
 holds-alone-requires : tie.Need-holds-alone-requires Inv-loop μ-loop
 holds-alone-requires c κs = search needs
 
-add-k : tie.Need-add-k Inv-loop μ-loop
-add-k c = search needs
+add-i : tie.Need-add-i Inv-loop μ-loop
+add-i c = search needs
 
 loop-less : tie.Need-loop-less Inv-loop μ-loop
 loop-less c = search needs
@@ -47,7 +48,7 @@ slots-alone-spec =
     μ-loop
     loop-holds
     holds-alone-requires
-    add-k
+    add-i
     loop-less
     loop-again
     returns

@@ -1,8 +1,9 @@
-use borrow.Author.Needs.{needs}
+-- `cache_state::slots_free` meets its contract: all slots before i are free.
 use mathlib.Core.Path.{_≡_}
 use Prim.Native.Nat.{_≤_, _-_}
 use native.Mathlib.Omega.{arith}
 use lib.ListN.{length}
+use borrow.Author.Needs.{needs}
 use Rattle.device.specs.Device.{slotCount, freeSlot, isFree}
 use Rattle.device.proofs.Loops.{length-mapped, Checked, checked-none, checked-stop, checked-next, checked-end}
 use Rattle.cache_state.proofs.slots_free.Statement.{statement}

@@ -1,8 +1,9 @@
-use borrow.Author.Needs.{needs}
+-- `cache_state::slots_in_range` meets its contract: all slots before i pass.
 use mathlib.Core.Path.{_≡_, sym, _∙_}
 use Prim.Native.Nat.{_≤_, _-_}
 use native.Mathlib.Omega.{arith}
 use lib.ListN.{length}
+use borrow.Author.Needs.{needs}
 use Rattle.device.specs.Sound.{inRange}
 use Rattle.device.specs.Device.{slotCount, freeSlot}
 use Rattle.device.proofs.Loops.{length-mapped, Checked, checked-none, checked-stop, checked-next, checked-end}

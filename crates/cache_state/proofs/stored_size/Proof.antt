@@ -1,3 +1,4 @@
+-- `cache_state::stored_size` meets its contract: past the end a list has the default.
 use mathlib.Core.Path.{sym}
 use native.Mathlib.Omega.{arith}
 use lib.ListN.{List·getD-eq-default}

@@ -5,9 +5,9 @@ use Prim.Native.Nat.{ℕ, _-_, min}
 use native.Mathlib.Omega.{arith}
 use lib.ListN.{length}
 use borrow.Rule.Slice.PartMut.{putMid}
+use borrow.Author.Needs.{needs}
 use Rattle.memory.specs.Bytes.{zeros, part, overwrite}
 use Rattle.memory.proofs.Bytes.{length-overwrite, overwrite-pad, put-zeros}
-use borrow.Author.Needs.{needs}
 use Rattle.memory.proofs.copy_padded.Statement.{statement}
 use Rattle.memory.proofs.copy_padded.Tie as tie
 

@@ -1,17 +1,17 @@
+-- `reading::look` meets its contract: refused as `admit` says, or a part of the frames or of the media.
 use mathlib.Core.Path.{_≡_, _∙_, ap}
 use Prim.Native.Nat.{ℕ, _+_, _-_, _%_, _≤_}
 use native.Mathlib.Omega.{arith}
 use lib.Dec.{leb}
 use borrow.Author.Tests.{leb-true}
+use borrow.Author.Needs.{needs}
 use Rattle.memory.specs.Bytes.{part}
 use Rattle.media.specs.Geometry.{pagesPerFile, pageBytes, fileBytes, fileStart}
 use Rattle.media.specs.Write.{mediaOf}
 use Rattle.device.specs.Device.{Device, deviceOf, frameStart}
-use Rattle.device.proofs.Admission.{Admitted}
-use Rattle.device.proofs.Admission.{file-passed, file-refused, file-ready}
+use Rattle.device.proofs.Admission.{Admitted, file-passed, file-refused, file-ready}
 use Rattle.device.proofs.Sound.{sound-sizes}
 use Rattle.device.proofs.Looking.{look-refused, look-cached, look-media}
-use borrow.Author.Needs.{needs}
 use Rattle.reading.proofs.look.Statement.{statement}
 use Rattle.reading.proofs.look.Tie as tie
 

@@ -1,12 +1,12 @@
+-- `reading::look_count` meets its contract: refused as `admit` says, or counted.
 use native.Mathlib.Omega.{arith}
 use lib.Dec.{leb}
+use borrow.Author.Needs.{needs}
 use Rattle.media.specs.Geometry.{pagesPerFile, fileBytes}
 use Rattle.media.specs.Write.{mediaOf}
 use Rattle.device.specs.Device.{Device, deviceOf}
-use Rattle.device.proofs.Admission.{Admitted}
-use Rattle.device.proofs.Admission.{file-passed, file-refused, file-ready}
+use Rattle.device.proofs.Admission.{Admitted, file-passed, file-refused, file-ready}
 use Rattle.device.proofs.Looking.{count-refused, count-done}
-use borrow.Author.Needs.{needs}
 use Rattle.reading.proofs.look_count.Statement.{statement}
 use Rattle.reading.proofs.look_count.Tie as tie
 

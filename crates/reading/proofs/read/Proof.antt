@@ -1,15 +1,15 @@
+-- `reading::read` meets its contract: refused as `admit` says, or the current bytes.
 use Prim.Native.Nat.{_≤_}
 use native.Mathlib.Omega.{arith}
 use lib.Dec.{leb}
 use borrow.Author.Tests.{leb-true}
+use borrow.Author.Needs.{needs}
 use Rattle.media.specs.Geometry.{pagesPerFile, fileBytes}
 use Rattle.media.specs.Write.{mediaOf}
 use Rattle.device.specs.Device.{Device, deviceOf}
-use Rattle.device.proofs.Admission.{Admitted}
-use Rattle.device.proofs.Admission.{file-passed, file-refused, file-ready}
+use Rattle.device.proofs.Admission.{Admitted, file-passed, file-refused, file-ready}
 use Rattle.device.proofs.Sound.{sound-sizes}
 use Rattle.device.proofs.Reading.{read-refused, read-done}
-use borrow.Author.Needs.{needs}
 use Rattle.reading.proofs.read.Statement.{statement}
 use Rattle.reading.proofs.read.Tie as tie
 

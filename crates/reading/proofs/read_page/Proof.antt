@@ -1,8 +1,10 @@
+-- `reading::read_page` meets its contract: the page is in a frame, or on the media with zeros after the floor.
 use mathlib.Core.Path.{_≡_, _∙_, ap}
 use mathlib.Core.List.{List}
 use Prim.Native.Nat.{ℕ, _+_, _-_, _%_, _≤_, min}
 use native.Mathlib.Omega.{arith}
 use lib.ListN.{length, getD}
+use borrow.Author.Needs.{needs}
 use Rattle.memory.specs.Bytes.{zeros, part, overwrite}
 use Rattle.memory.proofs.Bytes.{length-part, overwrite-whole}
 use Rattle.media.specs.Geometry.{pageBytes, fileBytes, mediaBytes, fileStart}
@@ -10,7 +12,6 @@ use Rattle.media.specs.Write.{mediaOf}
 use Rattle.media.proofs.Geometry.{file-end}
 use Rattle.device.specs.Device.{deviceOf, frameStart}
 use Rattle.device.proofs.Current.{bytes-cached, bytes-media}
-use borrow.Author.Needs.{needs}
 use Rattle.reading.proofs.read_page.Statement.{statement}
 use Rattle.reading.proofs.read_page.Tie as tie
 

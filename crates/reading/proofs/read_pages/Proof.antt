@@ -1,16 +1,16 @@
-use Rattle.device.proofs.Reading.{read-step}
-use Rattle.memory.proofs.Bytes.{length-put}
-use borrow.Author.Needs.{needs}
+-- `reading::read_pages` meets its contract: after i bytes the front of the buffer has the first i current bytes.
 use mathlib.Core.Path.{_≡_, sym, _∙_}
 use mathlib.Core.List.{List}
 use Prim.Native.Nat.{ℕ, _+_, _-_, _≤_}
 use native.Mathlib.Omega.{arith}
 use lib.ListN.{length}
+use borrow.Author.Needs.{needs}
 use Rattle.memory.specs.Bytes.{overwrite}
-use Rattle.memory.proofs.Bytes.{overwrite-none}
+use Rattle.memory.proofs.Bytes.{length-put, overwrite-none}
 use Rattle.media.specs.Write.{mediaOf}
 use Rattle.device.specs.Device.{deviceOf}
 use Rattle.device.specs.Current.{currentBytes}
+use Rattle.device.proofs.Reading.{read-step}
 use Rattle.reading.proofs.read_pages.Statement.{statement}
 use Rattle.reading.proofs.read_pages.Tie as tie
 
