@@ -162,8 +162,8 @@ pub fn look_count(
 ) -> Answer
     ensures { λ r. ⌜ coded r ≡ lookCount pagesPerFile file position (deviceOf (mediaOf (now (media .entry)) (now (sizes .entry))) (now (frames .entry)) cache) ⌝ }
 {
-    let file_len = PAGE_BYTES * PAGES_PER_FILE;
-    let admission = cache_state::admit(media, sizes, frames, cache, file, position <= file_len);
+    let greatest = PAGE_BYTES * PAGES_PER_FILE;
+    let admission = cache_state::admit(media, sizes, frames, cache, file, position <= greatest);
     match admission {
         Answer::Refused(refusal) => Answer::Refused(refusal),
         Answer::Done(_) => {

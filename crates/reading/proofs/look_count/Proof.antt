@@ -17,8 +17,8 @@ device c = deviceOf (mediaOf (c .args .media .now) (c .args .sizes .now)) (c .ar
 ready : (c : tie.After-enum-told) → Admitted pagesPerFile (device (c .before .before .before .before .before .before)) (c .before .before .before .before .before .before .args .file) (leb (c .before .before .before .before .before .before .args .position) (fileBytes pagesPerFile))
 ready c = file-ready pagesPerFile (device (c .before .before .before .before .before .before)) _ _ (c .before .before .admit .result) (c .before .before .admit .ensures) _ (c .enum-told .given .1)
 
-mul-file-len : tie.Need-mul-file-len
-mul-file-len c = search needs
+mul-greatest : tie.Need-mul-greatest
+mul-greatest c = search needs
 
 admit-requires : tie.Need-admit-requires
 admit-requires c κs = search needs
@@ -58,7 +58,7 @@ pub look-count-spec : {M : Type 1} → statement M
 look-count-spec =
     tie.close
     (tie.spec
-    mul-file-len
+    mul-greatest
     admit-requires
     enum-known-admission
     enum-told
