@@ -1,0 +1,105 @@
+-- Each place has the write that the plan has there, and the sizes of a sound state keep it within the limits.
+use mathlib.Core.Path.{_≡_, sym, _∙_}
+use mathlib.Core.List.{List, []}
+use mathlib.Core.Logic.{_≢_}
+use Prim.Native.Nat.{ℕ, suc, _-_}
+use native.Mathlib.Omega.{arith}
+use Rattle.media.specs.Write.{mediaOf}
+use Rattle.device.specs.Device.{Device, deviceOf, logicalAt, floorAt}
+use Rattle.device.proofs.Syncing.{trim-needed, trim-unneeded, page-needed, page-unneeded, size-needed, size-unneeded}
+use Rattle.writeback.proofs.Places.{place-trim, place-page, place-size}
+use borrow.Author.Needs.{needs}
+use Rattle.writeback.proofs.planned_write.Statement.{statement}
+use Rattle.writeback.proofs.planned_write.Tie as tie
+
+abbrev device : tie.Start → List ℕ → Device
+device s frames = deviceOf (mediaOf [] (s .args .sizes .now)) frames (s .args .cache)
+
+mul-logical : tie.Need-mul-logical
+mul-logical c = search needs
+
+array-read-logical : tie.Need-array-read-logical
+array-read-logical c = search needs
+
+mul-floor : tie.Need-mul-floor
+mul-floor c = search needs
+
+array-read-floor : tie.Need-array-read-floor
+array-read-floor c = search needs
+
+mul-if2 : tie.Need-mul-if2
+mul-if2 c = search needs
+
+shared-slice-read-if2 : tie.Need-shared-slice-read-if2
+shared-slice-read-if2 c = search needs
+
+cast-t23 : tie.Need-cast-t23
+cast-t23 c = search needs
+
+returns : tie.Need-returns
+returns c =
+    let s = c .before .before .before .before .before .before in
+    let a = s .args in
+    (λ frames. sym (place-trim (a .pages) (device s frames) (a .file) (a .place) (omega arith) ∙ trim-needed (device s frames) (a .file) (omega arith)), (omega arith, omega arith))
+
+returns-2 : tie.Need-returns-2
+returns-2 c =
+    let s = c .before .before .before .before .before .before in
+    let a = s .args in
+    (λ frames. sym (place-trim (a .pages) (device s frames) (a .file) (a .place) (omega arith) ∙ trim-unneeded (device s frames) (a .file) (omega arith)), tt)
+
+sub-number : tie.Need-sub-number
+sub-number c = search needs
+
+slot-of-requires : tie.Need-slot-of-requires
+slot-of-requires c κs = search needs
+
+returns-3 : tie.Need-returns-3
+returns-3 c =
+    let k = c .before in
+    let s = c .before .before .before .before .before .before .before in
+    let a = s .args in
+    (λ frames. sym (place-page (a .pages) (device s frames) (a .file) (a .place) (a .place - 1) (omega arith) (omega arith) ∙ page-needed (device s frames) (a .file) (a .place - 1) _ (k .slot-of .ensures) (omega arith)), (omega arith, omega arith))
+
+returns-4 : tie.Need-returns-4
+returns-4 c =
+    let k = c .before in
+    let s = c .before .before .before .before .before .before .before in
+    let a = s .args in
+    (λ frames. sym (place-page (a .pages) (device s frames) (a .file) (a .place) (a .place - 1) (omega arith) (omega arith) ∙ page-unneeded (device s frames) (a .file) (a .place - 1) _ (k .slot-of .ensures) (omega arith)), tt)
+
+returns-5 : tie.Need-returns-5
+returns-5 c =
+    let s = c .before .before .before .before .before .before in
+    let a = s .args in
+    (λ frames. sym (place-size (a .pages) (device s frames) (a .file) (a .place) (a .place - 1) (omega arith) (omega arith) ∙ size-unneeded (device s frames) (a .file) (omega arith)), tt)
+
+cast-t12 : tie.Need-cast-t12
+cast-t12 c = search needs
+
+returns-6 : tie.Need-returns-6
+returns-6 c =
+    let s = c .before .before .before .before .before .before in
+    let a = s .args in
+    (λ frames. sym (place-size (a .pages) (device s frames) (a .file) (a .place) (a .place - 1) (omega arith) (omega arith) ∙ size-needed (device s frames) (a .file) (λ e. absurd (omega arith))), omega arith)
+
+pub planned-write-spec : {M : Type 1} → statement M
+planned-write-spec =
+    tie.close
+    (tie.spec
+    mul-logical
+    array-read-logical
+    mul-floor
+    array-read-floor
+    mul-if2
+    shared-slice-read-if2
+    cast-t23
+    returns
+    returns-2
+    sub-number
+    slot-of-requires
+    returns-3
+    returns-4
+    returns-5
+    cast-t12
+    returns-6)
