@@ -54,9 +54,12 @@ same-length-2 c = search needs
 returns : tie.Need-returns
 returns c =
     let w = c .before .before .before .before .before .before in
-    let t = c .before .before .before .before .before .before .before .before .before .before .before in
-    let s = c .before .before .before .before .before .before .before .before .before .before .before .before .before .before .before .before .before .before in
+    let t = w .before .before .before .before .before in
+    let s = t .before .before .before .before .before .before .before in
     λ frames. rw (c .down-state .ensures) (mount-cuts pagesPerFile (device s frames) (s .args .budget) (all t) (w .mount-files .result) _ (w .mount-files .ensures) (omega arith))
+
+mounted-state-requires : tie.Need-mounted-state-requires
+mounted-state-requires c κs = search needs
 
 same-length-3 : tie.Need-same-length-3
 same-length-3 c = search needs
@@ -78,10 +81,11 @@ same-length-6 c = search needs
 
 returns-3 : tie.Need-returns-3
 returns-3 c =
-    let w = c .before .before .before .before .before in
-    let t = c .before .before .before .before .before .before .before .before .before .before in
-    let s = c .before .before .before .before .before .before .before .before .before .before .before .before .before .before .before .before .before in
-    λ frames. rw (c .before .before .before .before .before .before .before .before .mounted-state .ensures) (mount-ends pagesPerFile (device s frames) (s .args .budget) (all t) (w .mount-files .result) _ (w .mount-files .ensures) (omega arith))
+    let w = c .before .before .before .before .before .before in
+    let z = w .before .before .before in
+    let t = z .before .before in
+    let s = t .before .before .before .before .before .before .before in
+    λ frames. rw (c .mounted-state .ensures, z .sizes-array .ensures) (mount-ends pagesPerFile (device s frames) (s .args .budget) (all t) (w .mount-files .result) _ (w .mount-files .ensures) (omega arith))
 
 pub mount-spec : {M : Type 1} → statement M
 mount-spec =
@@ -96,6 +100,7 @@ mount-spec =
     same-length
     same-length-2
     returns
+    mounted-state-requires
     same-length-3
     same-length-4
     returns-2
