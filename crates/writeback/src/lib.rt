@@ -47,11 +47,12 @@ fn planned_write(
 {
     let logicals = cache.logical;
     let floors = cache.floor;
-    let logical = logicals[file];
-    let floor = floors[file];
+    let logical = logicals[file] as usize;
+    let floor = floors[file] as usize;
     if place == 0 {
-        if floor < sizes[file] {
-            return PlannedWrite::Trim(floor as usize);
+        let stored = sizes[file] as usize;
+        if floor < stored {
+            return PlannedWrite::Trim(floor);
         }
         return PlannedWrite::Nothing;
     }
@@ -66,7 +67,7 @@ fn planned_write(
     if logical == floor {
         return PlannedWrite::Nothing;
     }
-    PlannedWrite::Size(logical as usize)
+    PlannedWrite::Size(logical)
 }
 
 // TRIM, if it is wanted and the budget pays. The number of writes needed so far comes back, with this one.
@@ -95,14 +96,7 @@ fn trim_if(
 }
 
 // PAGE: the bytes of slot k replace one page of the media.
-fn write_frame(
-    media: &mut [u8],
-    frames: &[u8],
-    file: usize,
-    number: usize,
-    k: usize,
-    pages: usize,
-)
+fn write_frame(media: &mut [u8], frames: &[u8], file: usize, number: usize, k: usize, pages: usize)
     requires { ⌜ (fileBytes pages < 2 ^ 32) × (length (now media) ≡ mediaBytes pages) × (length (now frames) ≡ framesBytes)
         × (file < files) × (number < pages) × (k < slotCount) ⌝ }
     ensures { λ r. ⌜ ((stored : List ℕ) → mediaOf (now (media .exit)) stored

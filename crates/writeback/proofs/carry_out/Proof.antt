@@ -1,6 +1,6 @@
 -- In each arm the write that was found is within the limits, so the media does it; `Spent` has a law for each end.
 use mathlib.Core.Path.{_≡_, refl, sym, ap, _∙_}
-use mathlib.Core.List.{List, [], _∷_}
+use mathlib.Core.List.{List}
 use mathlib.Core.Bool.{true}
 use native.Mathlib.Omega.{arith}
 use Rattle.media.specs.Geometry.{pagesPerFile}

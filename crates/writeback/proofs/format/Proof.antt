@@ -20,9 +20,12 @@ media-of s = mediaOf (s .args .media .now) (s .args .sizes .now)
 abbrev device : tie.Start → List ℕ → Device
 device s frames = deviceOf (media-of s) frames (s .args .cache)
 
+abbrev start : tie.After-enum-told → tie.Start
+start c = c .before .before .before .before .before .before .before
+
 -- what `admit_format` has tested
-all : (c : tie.After-enum-told) → passed (mediaShape pagesPerFile (media-of (c .before .before .before .before .before .before .before))) ≡ true
-all c = shape-passed pagesPerFile (media-of (c .before .before .before .before .before .before .before)) (c .before .before .admit-format .result) (c .before .before .admit-format .ensures) _ (c .enum-told .given .1)
+all : (c : tie.After-enum-told) → passed (mediaShape pagesPerFile (media-of (start c))) ≡ true
+all c = shape-passed pagesPerFile (media-of (start c)) (c .before .before .admit-format .result) (c .before .before .admit-format .ensures) _ (c .enum-told .given .1)
 
 admit-format-requires : tie.Need-admit-format-requires
 admit-format-requires c κs = search needs
@@ -34,7 +37,7 @@ enum-told : tie.Need-enum-told
 enum-told c = search needs
 
 format-files-requires : tie.Need-format-files-requires
-format-files-requires c κs = shape-admitted pagesPerFile (device (c .before .before .before .before .before .before .before .before .before) []) (all (c .before .before))
+format-files-requires c κs = let t = c .before .before in shape-admitted pagesPerFile (device (start t) []) (all t)
 
 down-state-requires : tie.Need-down-state-requires
 down-state-requires c κs = search needs
@@ -49,7 +52,7 @@ returns : tie.Need-returns
 returns c =
     let w = c .before .before .before .before .before .before in
     let t = w .before .before .before in
-    let s = t .before .before .before .before .before .before .before in
+    let s = start t in
     λ frames. rw (c .down-state .ensures) (format-cuts pagesPerFile (device s frames) (s .args .budget) (all t) (w .format-files .result) _ (w .format-files .ensures) (omega arith))
 
 down-state-requires-2 : tie.Need-down-state-requires-2
@@ -77,7 +80,7 @@ returns-3 : tie.Need-returns-3
 returns-3 c =
     let w = c .before .before .before .before .before .before in
     let t = w .before .before .before in
-    let s = t .before .before .before .before .before .before .before in
+    let s = start t in
     λ frames. rw (c .down-state2 .ensures) (format-ends pagesPerFile (device s frames) (s .args .budget) (all t) (w .format-files .result) _ (w .format-files .ensures) (omega arith))
 
 pub format-spec : {M : Type 1} → statement M

@@ -20,12 +20,15 @@ media-of s = mediaOf (s .args .media .now) (s .args .sizes .now)
 abbrev device : tie.Start → List ℕ → Device
 device s frames = deviceOf (media-of s) frames (s .args .cache)
 
--- what `admit_mount` has tested
-all : (c : tie.After-enum-told) → passed (mountTests pagesPerFile (media-of (c .before .before .before .before .before .before .before))) ≡ true
-all c = mount-passed pagesPerFile (media-of (c .before .before .before .before .before .before .before)) (c .before .before .admit-mount .result) (c .before .before .admit-mount .ensures) _ (c .enum-told .given .1)
+abbrev start : tie.After-enum-told → tie.Start
+start c = c .before .before .before .before .before .before .before
 
-ready : (c : tie.After-enum-told) → Mountable pagesPerFile (device (c .before .before .before .before .before .before .before) [])
-ready c = mount-admitted pagesPerFile (device (c .before .before .before .before .before .before .before) []) (all c)
+-- what `admit_mount` has tested
+all : (c : tie.After-enum-told) → passed (mountTests pagesPerFile (media-of (start c))) ≡ true
+all c = mount-passed pagesPerFile (media-of (start c)) (c .before .before .admit-mount .result) (c .before .before .admit-mount .ensures) _ (c .enum-told .given .1)
+
+ready : (c : tie.After-enum-told) → Mountable pagesPerFile (device (start c) [])
+ready c = mount-admitted pagesPerFile (device (start c) []) (all c)
 
 admit-mount-requires : tie.Need-admit-mount-requires
 admit-mount-requires c κs = search needs
@@ -55,7 +58,7 @@ returns : tie.Need-returns
 returns c =
     let w = c .before .before .before .before .before .before in
     let t = w .before .before .before .before .before in
-    let s = t .before .before .before .before .before .before .before in
+    let s = start t in
     λ frames. rw (c .down-state .ensures) (mount-cuts pagesPerFile (device s frames) (s .args .budget) (all t) (w .mount-files .result) _ (w .mount-files .ensures) (omega arith))
 
 mounted-state-requires : tie.Need-mounted-state-requires
@@ -84,7 +87,7 @@ returns-3 c =
     let w = c .before .before .before .before .before .before in
     let z = w .before .before .before in
     let t = z .before .before in
-    let s = t .before .before .before .before .before .before .before in
+    let s = start t in
     λ frames. rw (c .mounted-state .ensures, z .sizes-array .ensures) (mount-ends pagesPerFile (device s frames) (s .args .budget) (all t) (w .mount-files .result) _ (w .mount-files .ensures) (omega arith))
 
 pub mount-spec : {M : Type 1} → statement M

@@ -1,11 +1,10 @@
 -- Each place has the write that the plan has there, and the sizes of a sound state keep it within the limits.
-use mathlib.Core.Path.{_≡_, sym, _∙_}
+use mathlib.Core.Path.{sym, _∙_}
 use mathlib.Core.List.{List, []}
-use mathlib.Core.Logic.{_≢_}
-use Prim.Native.Nat.{ℕ, suc, _-_}
+use Prim.Native.Nat.{ℕ, _-_}
 use native.Mathlib.Omega.{arith}
 use Rattle.media.specs.Write.{mediaOf}
-use Rattle.device.specs.Device.{Device, deviceOf, logicalAt, floorAt}
+use Rattle.device.specs.Device.{Device, deviceOf}
 use Rattle.device.proofs.Syncing.{trim-needed, trim-unneeded, page-needed, page-unneeded, size-needed, size-unneeded}
 use Rattle.writeback.proofs.Places.{place-trim, place-page, place-size}
 use borrow.Author.Needs.{needs}
@@ -21,20 +20,26 @@ mul-logical c = search needs
 array-read-logical : tie.Need-array-read-logical
 array-read-logical c = search needs
 
+cast-logical : tie.Need-cast-logical
+cast-logical c = search needs
+
 mul-floor : tie.Need-mul-floor
 mul-floor c = search needs
 
 array-read-floor : tie.Need-array-read-floor
 array-read-floor c = search needs
 
-mul-if2 : tie.Need-mul-if2
-mul-if2 c = search needs
+cast-floor : tie.Need-cast-floor
+cast-floor c = search needs
 
-shared-slice-read-if2 : tie.Need-shared-slice-read-if2
-shared-slice-read-if2 c = search needs
+mul-stored : tie.Need-mul-stored
+mul-stored c = search needs
 
-cast-t23 : tie.Need-cast-t23
-cast-t23 c = search needs
+shared-slice-read-stored : tie.Need-shared-slice-read-stored
+shared-slice-read-stored c = search needs
+
+cast-stored : tie.Need-cast-stored
+cast-stored c = omega (arith, c .shared-slice-known2 .given (c .before .before .before .before .before .args .file))
 
 returns : tie.Need-returns
 returns c =
@@ -74,9 +79,6 @@ returns-5 c =
     let a = s .args in
     (λ frames. sym (place-size (a .pages) (device s frames) (a .file) (a .place) (a .place - 1) (omega arith) (omega arith) ∙ size-unneeded (device s frames) (a .file) (omega arith)), tt)
 
-cast-t12 : tie.Need-cast-t12
-cast-t12 c = search needs
-
 returns-6 : tie.Need-returns-6
 returns-6 c =
     let s = c .before .before .before .before .before .before in
@@ -89,11 +91,13 @@ planned-write-spec =
     (tie.spec
     mul-logical
     array-read-logical
+    cast-logical
     mul-floor
     array-read-floor
-    mul-if2
-    shared-slice-read-if2
-    cast-t23
+    cast-floor
+    mul-stored
+    shared-slice-read-stored
+    cast-stored
     returns
     returns-2
     sub-number
@@ -101,5 +105,4 @@ planned-write-spec =
     returns-3
     returns-4
     returns-5
-    cast-t12
     returns-6)

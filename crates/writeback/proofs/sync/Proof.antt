@@ -8,21 +8,24 @@ use Rattle.device.specs.Admission.{fileTests}
 use Rattle.device.specs.Syncing.{syncedState}
 use Rattle.answer.proofs.Admission.{passed}
 use Rattle.device.proofs.Sound.{sound-sizes}
-use Rattle.device.proofs.Admission.{Admitted, file-passed, file-refused, file-ready}
+use Rattle.device.proofs.Admission.{Admitted, file-passed, file-refused, file-admitted}
 use Rattle.device.proofs.Syncing.{sync-refused, sync-cuts, sync-ends}
 use borrow.Author.Needs.{needs}
 use Rattle.writeback.proofs.sync.Statement.{statement}
 use Rattle.writeback.proofs.sync.Tie as tie
 
 abbrev device : tie.Start → Device
-device c = deviceOf (mediaOf (c .args .media .now) (c .args .sizes .now)) (c .args .frames .now) (c .args .cache)
+device s = deviceOf (mediaOf (s .args .media .now) (s .args .sizes .now)) (s .args .frames .now) (s .args .cache)
+
+abbrev start : tie.After-enum-told → tie.Start
+start c = c .before .before .before .before .before .before .before .before
 
 -- what `admit` has tested
-ready : (c : tie.After-enum-told) → Admitted pagesPerFile (device (c .before .before .before .before .before .before .before .before)) (c .before .before .before .before .before .before .before .before .args .file) true
-ready c = file-ready pagesPerFile (device (c .before .before .before .before .before .before .before .before)) _ true (c .before .before .admit .result) (c .before .before .admit .ensures) _ (c .enum-told .given .1)
+all : (c : tie.After-enum-told) → passed (fileTests pagesPerFile (device (start c)) (start c .args .file) true) ≡ true
+all c = file-passed pagesPerFile (device (start c)) _ true (c .before .before .admit .result) (c .before .before .admit .ensures) _ (c .enum-told .given .1)
 
-all : (c : tie.After-enum-told) → passed (fileTests pagesPerFile (device (c .before .before .before .before .before .before .before .before)) (c .before .before .before .before .before .before .before .before .args .file) true) ≡ true
-all c = file-passed pagesPerFile (device (c .before .before .before .before .before .before .before .before)) _ true (c .before .before .admit .result) (c .before .before .admit .ensures) _ (c .enum-told .given .1)
+ready : (c : tie.After-enum-told) → Admitted pagesPerFile (device (start c)) (start c .args .file) true
+ready c = file-admitted pagesPerFile (device (start c)) _ true (all c)
 
 admit-requires : tie.Need-admit-requires
 admit-requires c κs = search needs
@@ -52,7 +55,7 @@ returns : tie.Need-returns
 returns c =
     let w = c .before .before .before .before .before .before in
     let t = w .before .before .before in
-    let s = t .before .before .before .before .before .before .before .before in
+    let s = start t in
     rw (c .down-state .ensures) (sync-cuts pagesPerFile (s .args .file) (s .args .budget) (device s) (all t) (w .sync-writes .result) _ (w .sync-writes .ensures) (omega arith))
 
 synced-state-requires : tie.Need-synced-state-requires
@@ -82,7 +85,7 @@ unfolding syncedState
 returns-3 c =
     let w = c .before .before .before .before .before .before in
     let t = w .before .before .before in
-    let s = t .before .before .before .before .before .before .before .before in
+    let s = start t in
     rw (c .synced-state .ensures) (sync-ends pagesPerFile (s .args .file) (s .args .budget) (device s) (all t) (w .sync-writes .result) _ (w .sync-writes .ensures) (omega arith))
 
 pub sync-spec : {M : Type 1} → statement M
