@@ -11,13 +11,13 @@ ghost use mathlib.Core.List.{List, []};
 ghost use Prim.Native.Nat.{ℕ, _+_, _≤_, _<_, _^_};
 ghost use lib.ListN.{length, getD};
 ghost use lib.Dec.{eqb};
-ghost use Rattle.answer.specs.Coded.{coded};
+ghost use Rattle.answer.specs.Coded.{coded, CUT};
 ghost use Rattle.memory.specs.Bytes.{part};
 ghost use Rattle.media.specs.Geometry.{files, pagesPerFile, pageBytes, fileBytes, mediaBytes};
 ghost use Rattle.media.specs.Write.{mediaOf, sizeAt, apply};
 ghost use Rattle.media.specs.Write.MediaWrite.{page, trim};
 ghost use Rattle.device.specs.Scan.{every};
-ghost use Rattle.device.specs.Device.{deviceOf, slotCount, framesBytes, frameStart};
+ghost use Rattle.device.specs.Device.{deviceOf, downState, slotCount, framesBytes, frameStart};
 ghost use Rattle.device.specs.Admission.{give};
 ghost use Rattle.device.specs.Plan.{writeIf, Spent};
 ghost use Rattle.device.specs.Syncing.{syncPlan, syncedState, sync};
@@ -56,8 +56,8 @@ fn planned_write(
         }
         return PlannedWrite::Nothing;
     }
-    let number = place - 1;
-    if number < pages {
+    if place <= pages {
+        let number = place - 1;
         let k = cache_state::slot_of(cache, file, number);
         if k < device::SLOTS {
             return PlannedWrite::Page(number, k);
@@ -159,14 +159,24 @@ fn sync_writes(
         (syncPlan pagesPerFile (deviceOf (mediaOf (now (media .entry)) (now (sizes .entry))) (now (frames .entry)) cache) file)
         (mediaOf (now (media .exit)) (now (sizes .exit))) ⌝ }
 {
-    let mut n = 0;
-    let mut i = 0;
-    while i < media::PAGES_PER_FILE + 2 {
-        let write = planned_write(sizes, cache, file, i, media::PAGES_PER_FILE);
-        n = carry_out(media, sizes, frames, file, write, budget, n);
-        i += 1;
+    let mut needed = 0;
+    let mut place = 0;
+    while place < media::PAGES_PER_FILE + 2 {
+        let write = planned_write(sizes, cache, file, place, media::PAGES_PER_FILE);
+        needed = carry_out(media, sizes, frames, file, write, budget, needed);
+        place += 1;
     }
-    n
+    needed
+}
+
+// CUT, which leaves the device down.
+fn cut(budget: usize) -> Outcome
+    ensures { λ r. ⌜ (coded (r .answer) ≡ CUT budget) × (r .cache ≡ downState) ⌝ }
+{
+    Outcome {
+        answer: Answer::Refused(Refusal::Cut(budget)),
+        cache: cache_state::down_state(),
+    }
 }
 
 // The state after a sync of a file.
@@ -174,9 +184,9 @@ fn synced_state(cache: CacheState, file: usize) -> CacheState
     requires { ⌜ file < files ⌝ }
     ensures { λ r. ⌜ r ≡ syncedState cache file ⌝ }
 {
-    let logicals = cache.logical;
+    let sizes = cache.logical;
     let mut next = cache_state::free_pages_from(cache, file, 0);
-    next.floor[file] = logicals[file];
+    next.floor[file] = sizes[file];
     next
 }
 
@@ -199,15 +209,12 @@ pub fn sync(
             cache,
         },
         Answer::Done(_) => {
-            let n = sync_writes(media, sizes, frames, cache, file, budget);
-            if budget < n {
-                return Outcome {
-                    answer: Answer::Refused(Refusal::Cut(budget)),
-                    cache: cache_state::down_state(),
-                };
+            let writes = sync_writes(media, sizes, frames, cache, file, budget);
+            if budget < writes {
+                return cut(budget);
             }
             Outcome {
-                answer: Answer::Done(n),
+                answer: Answer::Done(writes),
                 cache: synced_state(cache, file),
             }
         }
@@ -266,13 +273,13 @@ fn mount_files(media: &mut [u8], sizes: &mut [u32], budget: usize) -> usize
     ensures { λ r. ⌜ Spent pagesPerFile budget (mediaOf (now (media .entry)) (now (sizes .entry))) 0 r
         (mountPlan pagesPerFile (mediaOf (now (media .entry)) (now (sizes .entry)))) (mediaOf (now (media .exit)) (now (sizes .exit))) ⌝ }
 {
-    let mut n = 0;
+    let mut needed = 0;
     let mut f = 0;
     while f < media::FILES {
-        n = mount_file(media, sizes, f, budget, n);
+        needed = mount_file(media, sizes, f, budget, needed);
         f += 1;
     }
-    n
+    needed
 }
 
 // The stored sizes, by value.
@@ -302,15 +309,12 @@ pub fn mount(media: &mut [u8], sizes: &mut [u32], cache: CacheState, budget: usi
         },
         Answer::Done(_) => {
             let found = sizes_array(sizes);
-            let n = mount_files(media, sizes, budget);
-            if budget < n {
-                return Outcome {
-                    answer: Answer::Refused(Refusal::Cut(budget)),
-                    cache: cache_state::down_state(),
-                };
+            let trims = mount_files(media, sizes, budget);
+            if budget < trims {
+                return cut(budget);
             }
             Outcome {
-                answer: Answer::Done(n),
+                answer: Answer::Done(trims),
                 cache: cache_state::mounted_state(found),
             }
         }
@@ -335,14 +339,14 @@ fn format_files(media: &mut [u8], sizes: &mut [u32], budget: usize) -> usize
     ensures { λ r. ⌜ Spent pagesPerFile budget (mediaOf (now (media .entry)) (now (sizes .entry))) 0 r
         (formatPlan pagesPerFile (mediaOf (now (media .entry)) (now (sizes .entry)))) (mediaOf (now (media .exit)) (now (sizes .exit))) ⌝ }
 {
-    let mut n = 0;
+    let mut needed = 0;
     let mut f = 0;
     while f < media::FILES {
         let wanted = needs_format(media, sizes, f);
-        n = trim_if(media, sizes, f, 0, wanted, budget, n);
+        needed = trim_if(media, sizes, f, 0, wanted, budget, needed);
         f += 1;
     }
-    n
+    needed
 }
 
 // Format: the TRIMs of the plan, as many as the budget pays for. The device is down after it.
@@ -359,10 +363,7 @@ pub fn format(media: &mut [u8], sizes: &mut [u32], cache: CacheState, budget: us
         Answer::Done(_) => {
             let n = format_files(media, sizes, budget);
             if budget < n {
-                return Outcome {
-                    answer: Answer::Refused(Refusal::Cut(budget)),
-                    cache: cache_state::down_state(),
-                };
+                return cut(budget);
             }
             Outcome {
                 answer: Answer::Done(n),

@@ -39,8 +39,8 @@ enum-told c = search needs
 format-files-requires : tie.Need-format-files-requires
 format-files-requires c κs = let t = c .before .before in shape-admitted pagesPerFile (device (start t) []) (all t)
 
-down-state-requires : tie.Need-down-state-requires
-down-state-requires c κs = search needs
+cut-requires : tie.Need-cut-requires
+cut-requires c κs = search needs
 
 same-length : tie.Need-same-length
 same-length c = search needs
@@ -53,10 +53,10 @@ returns c =
     let w = c .before .before .before .before .before .before in
     let t = w .before .before .before in
     let s = start t in
-    λ frames. rw (c .down-state .ensures) (format-cuts pagesPerFile (device s frames) (s .args .budget) (all t) (w .format-files .result) _ (w .format-files .ensures) (omega arith))
+    λ frames. rw (c .cut .ensures .0, c .cut .ensures .1) (format-cuts pagesPerFile (device s frames) (s .args .budget) (all t) (w .format-files .result) _ (w .format-files .ensures) (omega arith))
 
-down-state-requires-2 : tie.Need-down-state-requires-2
-down-state-requires-2 c κs = search needs
+down-state-requires : tie.Need-down-state-requires
+down-state-requires c κs = search needs
 
 same-length-3 : tie.Need-same-length-3
 same-length-3 c = search needs
@@ -81,7 +81,7 @@ returns-3 c =
     let w = c .before .before .before .before .before .before in
     let t = w .before .before .before in
     let s = start t in
-    λ frames. rw (c .down-state2 .ensures) (format-ends pagesPerFile (device s frames) (s .args .budget) (all t) (w .format-files .result) _ (w .format-files .ensures) (omega arith))
+    λ frames. rw (c .down-state .ensures) (format-ends pagesPerFile (device s frames) (s .args .budget) (all t) (w .format-files .result) _ (w .format-files .ensures) (omega arith))
 
 pub format-spec : {M : Type 1} → statement M
 format-spec =
@@ -91,11 +91,11 @@ format-spec =
     enum-known-admission
     enum-told
     format-files-requires
-    down-state-requires
+    cut-requires
     same-length
     same-length-2
     returns
-    down-state-requires-2
+    down-state-requires
     same-length-3
     same-length-4
     returns-2

@@ -10,10 +10,10 @@ use Rattle.writeback.proofs.format_files.Statement.{statement}
 use Rattle.writeback.proofs.format_files.Tie as tie
 
 abbrev Inv-loop : tie.InvT-loop
-Inv-loop media₀ sizes₀ budget n₀ f₀ media sizes n f = Formatting pagesPerFile budget (mediaOf media₀ sizes₀) f n (mediaOf media sizes) × (f ≤ files) × (length media ≡ length media₀) × (length sizes ≡ length sizes₀)
+Inv-loop media₀ sizes₀ budget needed₀ f₀ media sizes needed f = Formatting pagesPerFile budget (mediaOf media₀ sizes₀) f needed (mediaOf media sizes) × (f ≤ files) × (length media ≡ length media₀) × (length sizes ≡ length sizes₀)
 
 abbrev μ-loop : tie.MeasureT-loop
-μ-loop media₀ sizes₀ budget n₀ f₀ media sizes n f = files - f
+μ-loop media₀ sizes₀ budget needed₀ f₀ media sizes needed f = files - f
 
 loop-holds : tie.Need-loop-holds Inv-loop μ-loop
 loop-holds c = (trimming-none (omega arith) (omega arith), search needs, search needs, search needs)

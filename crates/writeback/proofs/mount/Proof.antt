@@ -45,8 +45,8 @@ sizes-array-requires c κs = ready (c .before) .sizes
 mount-files-requires : tie.Need-mount-files-requires
 mount-files-requires c κs = let ok = ready (c .before .before .before .before) in (ok .bytes, ok .sizes, ok .fit)
 
-down-state-requires : tie.Need-down-state-requires
-down-state-requires c κs = search needs
+cut-requires : tie.Need-cut-requires
+cut-requires c κs = search needs
 
 same-length : tie.Need-same-length
 same-length c = search needs
@@ -59,7 +59,7 @@ returns c =
     let w = c .before .before .before .before .before .before in
     let t = w .before .before .before .before .before in
     let s = start t in
-    λ frames. rw (c .down-state .ensures) (mount-cuts pagesPerFile (device s frames) (s .args .budget) (all t) (w .mount-files .result) _ (w .mount-files .ensures) (omega arith))
+    λ frames. rw (c .cut .ensures .0, c .cut .ensures .1) (mount-cuts pagesPerFile (device s frames) (s .args .budget) (all t) (w .mount-files .result) _ (w .mount-files .ensures) (omega arith))
 
 mounted-state-requires : tie.Need-mounted-state-requires
 mounted-state-requires c κs = search needs
@@ -99,7 +99,7 @@ mount-spec =
     enum-told
     sizes-array-requires
     mount-files-requires
-    down-state-requires
+    cut-requires
     same-length
     same-length-2
     returns

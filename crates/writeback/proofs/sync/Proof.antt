@@ -42,8 +42,8 @@ sync-writes-requires c κs =
     let z = sound-sizes pagesPerFile _ _ _ (ok .sound) (ok .file) in
     (ok .bytes, ok .sizes, ok .frames, ok .file, z .0, z .1)
 
-down-state-requires : tie.Need-down-state-requires
-down-state-requires c κs = search needs
+cut-requires : tie.Need-cut-requires
+cut-requires c κs = search needs
 
 same-length : tie.Need-same-length
 same-length c = search needs
@@ -56,7 +56,7 @@ returns c =
     let w = c .before .before .before .before .before .before in
     let t = w .before .before .before in
     let s = start t in
-    rw (c .down-state .ensures) (sync-cuts pagesPerFile (s .args .file) (s .args .budget) (device s) (all t) (w .sync-writes .result) _ (w .sync-writes .ensures) (omega arith))
+    rw (c .cut .ensures .0, c .cut .ensures .1) (sync-cuts pagesPerFile (s .args .file) (s .args .budget) (device s) (all t) (w .sync-writes .result) _ (w .sync-writes .ensures) (omega arith))
 
 synced-state-requires : tie.Need-synced-state-requires
 synced-state-requires c κs = ready (c .before .before .before .before .before .before .before .before) .file
@@ -96,7 +96,7 @@ sync-spec =
     enum-known-admission
     enum-told
     sync-writes-requires
-    down-state-requires
+    cut-requires
     same-length
     same-length-2
     returns

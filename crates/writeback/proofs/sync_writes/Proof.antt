@@ -11,12 +11,12 @@ use Rattle.writeback.proofs.sync_writes.Statement.{statement}
 use Rattle.writeback.proofs.sync_writes.Tie as tie
 
 abbrev Inv-loop : tie.InvT-loop
-Inv-loop media₀ sizes₀ frames cache file budget n₀ i₀ media sizes n i =
-    Carried pagesPerFile budget (deviceOf (mediaOf media₀ sizes₀) frames cache) file i n (mediaOf media sizes)
-    × (i ≤ pagesPerFile + 2) × (length media ≡ length media₀) × (length sizes ≡ length sizes₀)
+Inv-loop media₀ sizes₀ frames cache file budget needed₀ place₀ media sizes needed place =
+    Carried pagesPerFile budget (deviceOf (mediaOf media₀ sizes₀) frames cache) file place needed (mediaOf media sizes)
+    × (place ≤ pagesPerFile + 2) × (length media ≡ length media₀) × (length sizes ≡ length sizes₀)
 
 abbrev μ-loop : tie.MeasureT-loop
-μ-loop media₀ sizes₀ frames cache file budget n₀ i₀ media sizes n i = pagesPerFile + 2 - i
+μ-loop media₀ sizes₀ frames cache file budget needed₀ place₀ media sizes needed place = pagesPerFile + 2 - place
 
 loop-holds : tie.Need-loop-holds Inv-loop μ-loop
 loop-holds c = (carried-none, search needs, search needs, search needs)
@@ -32,8 +32,8 @@ carry-out-requires c κs =
     let l = c .before .before .before .before .before in
     (omega (arith, l .loop .inv .2), omega (arith, l .loop .inv .3), omega arith, omega arith, c .before .before .planned-write .ensures .1, omega (arith, l .loop .inv .0 .most))
 
-add-i : tie.Need-add-i Inv-loop μ-loop
-add-i c = search needs
+add-place : tie.Need-add-place Inv-loop μ-loop
+add-place c = search needs
 
 loop-less : tie.Need-loop-less Inv-loop μ-loop
 loop-less c = search needs
@@ -65,7 +65,7 @@ sync-writes-spec =
     add-loop
     planned-write-requires
     carry-out-requires
-    add-i
+    add-place
     loop-less
     loop-again
     same-length
