@@ -50,7 +50,7 @@ same-length c = search needs
 returns : tie.Need-returns
 returns c =
     let w = c .before .before in
-    let x = c .before .before .before .before .before .before in
+    let x = w .before .before .before .before in
     let s = x .before .before .before .before .before in
     let a = s .args in
     spent-paid pagesPerFile (a .budget) (media-of s) (a .needed) _ _ _ (ap (planned s) (x .write2 .given .1)) (omega arith) (w .write-frame .ensures (a .sizes .now))
@@ -76,7 +76,7 @@ same-length-3 c = search needs
 returns-2 : tie.Need-returns-2
 returns-2 c =
     let w = c .before .before in
-    let x = c .before .before .before .before .before .before .before in
+    let x = w .before .before .before .before .before in
     let s = x .before .before .before .before .before in
     let a = s .args in
     let n = x .write3 .given .0 .0 in
@@ -98,8 +98,7 @@ same-length-5 c = search needs
 returns-3 : tie.Need-returns-3
 returns-3 c =
     let t = c .before .before .before .before in
-    let x = c .before .before .before .before .before .before .before .before in
-    let s = x .before .before .before .before .before in
+    let x = t .before .before .before .before in
     rw (x .write .given .1) (rw (write-needed true _ refl) at (t .trim-if .ensures))
 
 returns-4 : tie.Need-returns-4

@@ -1,3 +1,4 @@
+-- The files below f were looked at; those from f on are still as the format found them.
 use borrow.Author.Needs.{needs}
 use mathlib.Core.Path.{_≡_}
 use Prim.Native.Nat.{_-_, _≤_}
@@ -37,8 +38,8 @@ loop-less c = search needs
 loop-again : tie.Need-loop-again Inv-loop μ-loop
 loop-again c =
     let p = c .before .before .before .before in
-    let q = c .before .before .before .before .before .before .before in
-    let l = c .before .before .before .before .before .before .before .before .before .before .before in
+    let q = p .before .before .before in
+    let l = q .before .before .before .before in
     (formatting-next (l .loop .inv .0) (p .trim-if .result) (mediaOf (p .trim-if .last .0) (p .trim-if .last .1 .0)) (omega arith) (omega arith) (rw (q .needs-format .ensures) at (p .trim-if .ensures)), omega arith, omega (arith, p .trim-if .kept .0, l .loop .inv .2), omega (arith, p .trim-if .kept .1 .0, l .loop .inv .3))
 
 same-length : tie.Need-same-length Inv-loop μ-loop

@@ -1,3 +1,4 @@
+-- What was found of the file decides on its TRIM.
 use borrow.Author.Needs.{needs}
 use Rattle.writeback.proofs.mount_file.Statement.{statement}
 use Rattle.writeback.proofs.mount_file.Tie as tie
@@ -26,9 +27,8 @@ same-length-2 c = search needs
 returns : tie.Need-returns
 returns c =
     let t = c .before .before .before .before in
-    let q = c .before .before .before .before .before .before .before in
-    let s = c .before .before .before .before .before .before .before .before .before .before .before .before in
-    let a = s .args in
+    let q = t .before .before .before in
+    let a = q .before .before .before .before .before .args in
     rw (← (q .nonzero-from .ensures (a .sizes .now))) (t .trim-if .ensures)
 
 pub mount-file-spec : {M : Type 1} → statement M

@@ -1,3 +1,4 @@
+-- The two tests in their order.
 use mathlib.Core.Path.{sym, _∙_}
 use borrow.Author.Needs.{needs}
 use Rattle.writeback.proofs.needs_format.Statement.{statement}

@@ -1,12 +1,12 @@
+-- The admission decides, then the budget: a law of `sync` for each of its three ends.
 use mathlib.Core.Path.{_≡_}
 use mathlib.Core.Bool.{true}
 use native.Mathlib.Omega.{arith}
+use Rattle.answer.proofs.Admission.{passed}
 use Rattle.media.specs.Geometry.{pagesPerFile}
 use Rattle.media.specs.Write.{mediaOf}
 use Rattle.device.specs.Device.{Device, deviceOf}
 use Rattle.device.specs.Admission.{fileTests}
-use Rattle.device.specs.Syncing.{syncedState}
-use Rattle.answer.proofs.Admission.{passed}
 use Rattle.device.proofs.Sound.{sound-sizes}
 use Rattle.device.proofs.Admission.{Admitted, file-passed, file-refused, file-admitted}
 use Rattle.device.proofs.Syncing.{sync-refused, sync-cuts, sync-ends}
@@ -81,7 +81,6 @@ same-length-6 : tie.Need-same-length-6
 same-length-6 c = search needs
 
 returns-3 : tie.Need-returns-3
-unfolding syncedState
 returns-3 c =
     let w = c .before .before .before .before .before .before in
     let t = w .before .before .before in

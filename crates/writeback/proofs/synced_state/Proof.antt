@@ -1,3 +1,9 @@
+-- From 0 on are all pages of the file.
+use mathlib.Core.Path.{ap}
+use mathlib.Core.List.{List}
+use lib.ListN.{getD}
+use Rattle.device.specs.declared.Slot.{Slot}
+use Rattle.device.specs.Device.{withSlots, withFloor}
 use Rattle.device.specs.Syncing.{syncedState}
 use Rattle.device.proofs.Syncing.{free-all}
 use borrow.Author.Needs.{needs}
@@ -21,7 +27,10 @@ element-write-next c = search needs
 
 returns : tie.Need-returns
 unfolding syncedState
-returns c = rw (c .free-pages-from .ensures, free-all)
+returns c =
+    let a = c .before .before .args in
+    rw (c .free-pages-from .ensures)
+    (ap (λ (slots : List Slot). withFloor (withSlots (a .cache) slots) (a .file) (getD (a .cache .logical) (a .file) 0)) (free-all (a .file) (a .cache .slots)))
 
 pub synced-state-spec : {M : Type 1} → statement M
 synced-state-spec =

@@ -1,3 +1,4 @@
+-- A TRIM within the limits is done as the plan says; `Spent` has a law for each end.
 use mathlib.Core.Path.{sym, _∙_}
 use native.Mathlib.Omega.{arith}
 use Rattle.media.specs.Geometry.{pagesPerFile}
@@ -27,9 +28,10 @@ same-length-2 c = search needs
 returns : tie.Need-returns
 returns c =
     let p = c .before .before .before .before in
-    let s = c .before .before .before .before .before .before .before .before .before .before .before in
+    let t = p .before .before .before .before in
+    let s = t .before .before .before in
     let a = s .args in
-    spent-paid pagesPerFile (a .budget) (media-of s) (a .needed) _ (trim (a .file) (a .n)) _ (write-needed _ _ (c .before .before .before .before .before .before .before .before .if1 .taken)) (omega arith)
+    spent-paid pagesPerFile (a .budget) (media-of s) (a .needed) _ (trim (a .file) (a .n)) _ (write-needed _ _ (t .if1 .taken)) (omega arith)
     (p .trim .ensures .1 ∙ sym (trim-applied pagesPerFile (media-of s) (a .file) (a .n) (record { bytes = omega arith; sizes = omega arith; file = omega arith; range = omega arith }) (omega arith)))
 
 add-result-2 : tie.Need-add-result-2
