@@ -49,7 +49,7 @@ fn planned_write(
     let floors = cache.floor;
     let logical = logicals[file] as usize;
     let floor = floors[file] as usize;
-    if place == 0 {
+    if place < 1 {
         let stored = sizes[file] as usize;
         if floor < stored {
             return PlannedWrite::Trim(floor);

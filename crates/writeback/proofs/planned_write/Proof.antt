@@ -53,9 +53,6 @@ returns-2 c =
     let a = s .args in
     (λ frames. sym (place-trim (a .pages) (device s frames) (a .file) (a .place) (omega arith) ∙ trim-unneeded (device s frames) (a .file) (omega arith)), tt)
 
-sub-number : tie.Need-sub-number
-sub-number c = search needs
-
 slot-of-requires : tie.Need-slot-of-requires
 slot-of-requires c κs = search needs
 
@@ -100,7 +97,6 @@ planned-write-spec =
     cast-stored
     returns
     returns-2
-    sub-number
     slot-of-requires
     returns-3
     returns-4
