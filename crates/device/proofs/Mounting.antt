@@ -1,31 +1,40 @@
 -- What a mount or a format leaves on the media: cut after some TRIMs, or done.
-use mathlib.Core.Path.{_≡_, refl, sym, ap, _∙_}
+use mathlib.Core.Path.{_≡_, refl, sym, ap, _∙_, subst}
 use mathlib.Core.Logic.{_≢_, _⊎_, inl, inr}
-use mathlib.Core.Bool.{Bool, false, not, _||_}
+use mathlib.Core.Bool.{Bool, true, false, not, _||_}
+use mathlib.Core.List.{List, [], _∷_, _++_, append-nil, append-assoc}
 use Prim.Native.Nat.{ℕ, zero, suc, _+_, _-_, _≤_, _<_}
 use native.Mathlib.Nat.{le-of-suc-le-suc}
 use native.Mathlib.Omega.{arith}
+use native.Mathlib.Numerals.{add-one}
 use lib.Dec.{eqb}
 use lib.ListN.{length, getD, take}
-use lib.Seq.{take-nil, take-length, ext-getD}
+use lib.Seq.{take-nil, take-all, take-length, ext-getD}
 use borrow.Author.Tests.{not-false, eqb-true, eq-eqb, ne-eqb, le-leb, lt-leb}
 use borrow.Table.Steps.{cases}
-use Rattle.answer.specs.Coded.{refused, done, CUT}
+use Rattle.answer.specs.Coded.{refused, done, CUT, coded, codedRefusal}
+use Rattle.answer.specs.Admission.{firstRefusal}
+use Rattle.answer.specs.declared.Refusal.{Refusal}
+use Rattle.answer.specs.declared.Answer.{Answer}
+use Rattle.answer.specs.declared.Answer.the-variants.{Refused}
+use Rattle.answer.proofs.Coded.{coded-of}
+use Rattle.answer.proofs.Admission.{passed}
 use Rattle.memory.specs.Bytes.{part}
 use Rattle.memory.proofs.Cases.{split-eq}
 use Rattle.memory.proofs.Bytes.{length-part, getD-part}
 use Rattle.media.specs.Geometry.{files, fileBytes, mediaBytes, fileStart}
-use Rattle.media.specs.Write.{Media, byteAt, sizeAt, apply, applyAll, InLimits, All}
+use Rattle.media.specs.Write.{Media, MediaWrite, byteAt, sizeAt, apply, applyAll, InLimits, All}
 use Rattle.media.specs.Write.MediaWrite.{trim}
 use Rattle.media.proofs.Geometry.{file-end}
-use Rattle.media.proofs.Write.{bytes-stay, sizes-stay, byte-after-trim, size-after-trim, all-bytes-stay, all-sizes-stay}
+use Rattle.media.proofs.Write.{bytes-stay, sizes-stay, byte-after-trim, size-after-trim, other-byte, other-size, all-bytes-stay, all-sizes-stay}
 use Rattle.device.specs.Device.{Device, deviceOf, downState, mountedState}
 use Rattle.device.specs.Admission.{Result, give, mediaShape, mountTests}
-use Rattle.device.specs.Plan.{writeIf}
+use Rattle.device.specs.Scan.{every}
+use Rattle.device.specs.Plan.{writeIf, Spent}
 use Rattle.device.specs.Mounting.{trimsFrom, nonzeroFrom, mountPlan, mount, formatPlan, format}
 use Rattle.device.proofs.Scan.{or-left, or-right, every-at}
-use Rattle.device.proofs.Admission.{admit-by, Mountable, shape-admitted, shape-changeless, mount-changeless, mount-admitted}
-use Rattle.device.proofs.Plan.{budget-by, all-join, all-if}
+use Rattle.device.proofs.Admission.{admit-by, admit-refused, admit-passed, Mountable, shape-admitted, shape-changeless, mount-changeless, mount-admitted}
+use Rattle.device.proofs.Plan.{budget-by, all-join, all-if, spent-cut, spent-done}
 
 module _ (P : ℕ) where
   zero-from : (m : Media) (f n : ℕ) → length (m .bytes) ≡ mediaBytes P → f < files → nonzeroFrom P m f n ≡ false
@@ -37,6 +46,59 @@ module _ (P : ℕ) where
       ap (λ (k : ℕ). getD (m .bytes) k 0) (omega arith)
       ∙ sym (getD-part (m .bytes) (fileStart P f + n) (fileBytes P - n) (i - n) (omega arith))
       ∙ eqb-true _ _ (every-at (λ b. eqb b 0) (part (m .bytes) (fileStart P f + n) (fileBytes P - n)) 0 (not-false _ e) (i - n) (omega arith))
+
+  -- ---- the files that were not looked at yet
+
+  module _ (m : Media) where
+    -- the files from f on are as in m
+    pub record Untouched (f : ℕ) (a : Media) : Type 0 where
+      pub bytes : length (a .bytes) ≡ mediaBytes P
+      pub sizes : length (a .sizes) ≡ files
+      pub byte : (g i : ℕ) → f ≤ g → g < files → i < fileBytes P → byteAt P a g i ≡ byteAt P m g i
+      pub size-of : (g : ℕ) → f ≤ g → g < files → sizeAt a g ≡ sizeAt m g
+
+    pub untouched-all : length (m .bytes) ≡ mediaBytes P → length (m .sizes) ≡ files → Untouched 0 m
+    untouched-all lb ls = record { bytes = lb; sizes = ls; byte = λ g i l hg hi. refl; size-of = λ g l hg. refl }
+
+    module _ (f : ℕ) (a : Media) (u : Untouched f a) where
+      later : Untouched (suc f) a
+      later = record {
+        bytes = u .bytes;
+        sizes = u .sizes;
+        byte = λ g i l hg hi. u .byte g i (omega arith) hg hi;
+        size-of = λ g l hg. u .size-of g (omega arith) hg;
+      }
+
+      trimmed : (n : ℕ) → f < files → n ≤ fileBytes P → Untouched (suc f) (apply P a (trim f n))
+      trimmed n hf hn = record {
+        bytes = bytes-stay P a (trim f n) ∙ u .bytes;
+        sizes = sizes-stay P a (trim f n) ∙ u .sizes;
+        byte = λ g i l hg hi. other-byte P a (u .bytes) g i hg hi (trim f n) (hf, hn) (λ e. (omega arith)) ∙ u .byte g i (omega arith) hg hi;
+        size-of = λ g l hg. other-size P a g (trim f n) (λ e. (omega arith)) ∙ u .size-of g (omega arith) hg;
+      }
+
+      -- file f was looked at, with k writes left of a budget
+      pub untouched-next : (k n : ℕ) (needed : Bool) → f < files → n ≤ fileBytes P → Untouched (f + 1) (applyAll P a (take k (writeIf needed (trim f n))))
+      unfolding writeIf
+      untouched-next k n false hf hn = rw (take-nil, add-one) later
+      untouched-next zero n true hf hn = rw add-one later
+      untouched-next (suc k) n true hf hn =
+          subst (λ (ws : List MediaWrite). Untouched (f + 1) (applyAll P a ws)) (sym (take-all (suc k) (trim f n ∷ []) (omega arith))) (rw add-one (trimmed n hf hn))
+
+      -- what is found of file f is what m has of it
+      pub untouched-nonzero : (n : ℕ) → length (m .bytes) ≡ mediaBytes P → f < files → n ≤ fileBytes P → nonzeroFrom P a f n ≡ nonzeroFrom P m f n
+      unfolding nonzeroFrom
+      untouched-nonzero n lb hf hn =
+          let p : ℕ = fileStart P f + n in
+          let k : ℕ = fileBytes P - n in
+          let la : length (part (a .bytes) p k) ≡ k = length-part (a .bytes) p k (omega (arith, u .bytes, file-end P f hf)) in
+          let lm : length (part (m .bytes) p k) ≡ k = length-part (m .bytes) p k (omega (arith, file-end P f hf)) in
+          let e : part (a .bytes) p k ≡ part (m .bytes) p k =
+          ext-getD 0 (part (a .bytes) p k) (part (m .bytes) p k) (la ∙ sym lm) (λ i hi.
+          let z : fileStart P f + n + i ≡ fileStart P f + (n + i) = omega arith in
+          let b : getD (a .bytes) (p + i) 0 ≡ getD (m .bytes) (p + i) 0 = rw z (u .byte f (n + i) (omega arith) hf (omega arith)) in
+          getD-part (a .bytes) p k i (omega arith) ∙ b ∙ sym (getD-part (m .bytes) p k i (omega arith))) in
+          ap (λ (l : List ℕ). not (every (λ b. eqb b 0) l)) e
 
   -- ---- the TRIMs of all files
 
@@ -55,23 +117,8 @@ module _ (P : ℕ) where
       pub clean : all → (g i : ℕ) → f ≤ g → g < f + n → g < files → size g ≤ i → i < fileBytes P → byteAt P c g i ≡ 0
       pub sized : all → (g : ℕ) → f ≤ g → g < f + n → g < files → sizeAt c g ≡ size g
 
-    -- the files from f on are as they were at first
-    record Untouched (f : ℕ) (a : Media) : Type 0 where
-      pub bytes : length (a .bytes) ≡ mediaBytes P
-      pub sizes : length (a .sizes) ≡ files
-      pub byte : (g i : ℕ) → f ≤ g → g < files → i < fileBytes P → byteAt P a g i ≡ byteAt P m g i
-      pub size-of : (g : ℕ) → f ≤ g → g < files → sizeAt a g ≡ sizeAt m g
-
-    later : (f : ℕ) (a : Media) → Untouched f a → Untouched (suc f) a
-    later f a u = record {
-      bytes = u .bytes;
-      sizes = u .sizes;
-      byte = λ g i l hg hi. u .byte g i (omega arith) hg hi;
-      size-of = λ g l hg. u .size-of g (omega arith) hg;
-    }
-
     -- a file in order
-    keep-file : (f n : ℕ) (all : Type 0) (a c : Media) → needed f ≡ false → Untouched f a → Swept (suc f) n all a c → Swept f (suc n) all a c
+    keep-file : (f n : ℕ) (all : Type 0) (a c : Media) → needed f ≡ false → Untouched m f a → Swept (suc f) n all a c → Swept f (suc n) all a c
     keep-file f n all a c e u s = record {
       kept = s .kept;
       either = s .either;
@@ -88,7 +135,7 @@ module _ (P : ℕ) where
     }
 
     -- a file that is trimmed
-    module _ (f : ℕ) (hf : f < files) (a : Media) (u : Untouched f a) where
+    module _ (f : ℕ) (hf : f < files) (a : Media) (u : Untouched m f a) where
       abbrev b : Media
       b = apply P a (trim f (size f))
 
@@ -106,14 +153,6 @@ module _ (P : ℕ) where
 
       size-own : sizeAt b f ≡ size f
       size-own = rw (size-after-trim P a f (size f) f (rw (u .sizes) hf), eq-eqb f f refl)
-
-      trimmed : Untouched (suc f) b
-      trimmed = record {
-        bytes = bytes-stay P a (trim f (size f)) ∙ u .bytes;
-        sizes = sizes-stay P a (trim f (size f)) ∙ u .sizes;
-        byte = λ g i l hg hi. byte-other g i (λ e. (omega arith)) hg hi ∙ u .byte g i (omega arith) hg hi;
-        size-of = λ g l hg. size-other g (λ e. (omega arith)) hg ∙ u .size-of g (omega arith) hg;
-      }
 
       trim-file : (n : ℕ) (all : Type 0) (c : Media) → Swept (suc f) n all b c → Swept f (suc n) all a c
       trim-file n all c s = record {
@@ -155,20 +194,20 @@ module _ (P : ℕ) where
       sized = λ z. s .sized (le-of-suc-le-suc z);
     }
 
-    sweep : (n f k : ℕ) (a : Media) → f + n ≤ files → Untouched f a
+    sweep : (n f k : ℕ) (a : Media) → f + n ≤ files → Untouched m f a
         → Swept f n (length (trimsFrom needed size n f) ≤ k) a (applyAll P a (take k (trimsFrom needed size n f)))
     unfolding trimsFrom writeIf
     sweep zero f k a h u = rw (take-nil k) (none-swept f 0 _ a (λ _. refl))
     sweep (suc n) f zero a h u =
         cases (needed f)
         (λ e. rw e (none-swept f (suc n) _ a (λ z. absurd (omega arith))))
-        (λ e. rw e (keep-file f n _ a _ e u (sweep n (suc f) zero a (omega arith) (later f a u))))
+        (λ e. rw e (keep-file f n _ a _ e u (sweep n (suc f) zero a (omega arith) (later m f a u))))
     sweep (suc n) f (suc k) a h u =
         cases (needed f)
         (λ e. rw e
         (more
-        (trim-file f (omega arith) a u n _ _ (sweep n (suc f) k (apply P a (trim f (size f))) (omega arith) (trimmed f (omega arith) a u)))))
-        (λ e. rw e (keep-file f n _ a _ e u (sweep n (suc f) (suc k) a (omega arith) (later f a u))))
+        (trim-file f (omega arith) a u n _ _ (sweep n (suc f) k (apply P a (trim f (size f))) (omega arith) (trimmed m f a u (size f) (omega arith) (fits f (omega arith)))))))
+        (λ e. rw e (keep-file f n _ a _ e u (sweep n (suc f) (suc k) a (omega arith) (later m f a u))))
 
     trims-own : (n f : ℕ) → f + n ≤ files → All (InLimits P) (trimsFrom needed size n f)
     unfolding trimsFrom
@@ -190,12 +229,9 @@ module _ (P : ℕ) where
       pub sized : (g : ℕ) → g < files → sizeAt c g ≡ size g
 
     module _ (lb : length (m .bytes) ≡ mediaBytes P) (ls : length (m .sizes) ≡ files) where
-      at-first : Untouched 0 m
-      at-first = record { bytes = lb; sizes = ls; byte = λ g i l hg hi. refl; size-of = λ g l hg. refl }
-
       trims-cut : (k : ℕ) → Trimmed (applyAll P m (take k (trimsFrom needed size files 0)))
       trims-cut k =
-          let s = sweep files 0 k m (omega arith) at-first in
+          let s = sweep files 0 k m (omega arith) (untouched-all m lb ls) in
           record {
             bytes = all-bytes-stay P m (take k (trimsFrom needed size files 0)) ∙ lb;
             sizes = all-sizes-stay P m (take k (trimsFrom needed size files 0)) ∙ ls;
@@ -206,7 +242,7 @@ module _ (P : ℕ) where
       trims-done : Trimmed (applyAll P m (trimsFrom needed size files 0)) × AllTrimmed (applyAll P m (trimsFrom needed size files 0))
       trims-done =
           let n : ℕ = length (trimsFrom needed size files 0) in
-          let s = rw (take-length (trimsFrom needed size files 0)) at (sweep files 0 n m (omega arith) at-first) in (
+          let s = rw (take-length (trimsFrom needed size files 0)) at (sweep files 0 n m (omega arith) (untouched-all m lb ls)) in (
             rw (take-length (trimsFrom needed size files 0)) at (trims-cut n),
             record {
               clean = λ g i hg ge hi. s .clean (omega arith) g i (omega arith) (omega arith) hg ge hi;
@@ -307,3 +343,42 @@ module _ (P : ℕ) where
       admit-by d Q (mediaShape P (d .media)) _ (shape-changeless P d) fails (λ e.
       let x = shape-admitted P d e in
       budget-by P budget (formatPlan P (d .media)) downState d Q cut (λ l. finished l (x .0) (x .1)))
+
+-- ---- the code of a mount and of a format
+
+-- one file more
+pub trims-more : (needed : ℕ → Bool) (size : ℕ → ℕ) (n f : ℕ) → trimsFrom needed size (n + 1) f ≡ trimsFrom needed size n f ++ writeIf (needed (f + n)) (trim (f + n) (size (f + n)))
+unfolding trimsFrom
+trims-more needed size n f = rw add-one (go n f)
+  where
+    go : (n f : ℕ) → trimsFrom needed size (suc n) f ≡ trimsFrom needed size n f ++ writeIf (needed (f + n)) (trim (f + n) (size (f + n)))
+    go zero f = let e : f + 0 ≡ f = omega arith in rw (append-nil, e)
+    go (suc n) f = let e : suc f + n ≡ f + suc n = omega arith in rw (append-assoc, ← e) (ap (λ l. writeIf (needed f) (trim f (size f)) ++ l) (go n (suc f)))
+
+module _ (P : ℕ) (d : Device) (budget : ℕ) where
+  module _ (a : Answer) (x : Refusal) (q : a ≡ Refused x) where
+    pub mount-refused : coded a ≡ firstRefusal (mountTests P (d .media)) (done 0) → give (codedRefusal x) d ≡ mount P budget d
+    unfolding mount
+    mount-refused e = admit-refused (mountTests P (d .media)) d _ x (coded-of a (Refused x) _ q e)
+
+    pub format-refused : coded a ≡ firstRefusal (mediaShape P (d .media)) (done 0) → give (codedRefusal x) d ≡ format P budget d
+    unfolding format
+    format-refused e = admit-refused (mediaShape P (d .media)) d _ x (coded-of a (Refused x) _ q e)
+
+  module _ (h : passed (mountTests P (d .media)) ≡ true) (n : ℕ) (c : Media) (s : Spent P budget (d .media) 0 n (mountPlan P (d .media)) c) where
+    pub mount-cuts : budget < n → give (CUT budget) (deviceOf c (d .frames) downState) ≡ mount P budget d
+    unfolding mount
+    mount-cuts l = spent-cut P budget (mountPlan P (d .media)) (mountedState (d .media .sizes)) d n c s l ∙ admit-passed (mountTests P (d .media)) d _ h
+
+    pub mount-ends : n ≤ budget → give (done n) (deviceOf c (d .frames) (mountedState (d .media .sizes))) ≡ mount P budget d
+    unfolding mount
+    mount-ends l = spent-done P budget (mountPlan P (d .media)) (mountedState (d .media .sizes)) d n c s l ∙ admit-passed (mountTests P (d .media)) d _ h
+
+  module _ (h : passed (mediaShape P (d .media)) ≡ true) (n : ℕ) (c : Media) (s : Spent P budget (d .media) 0 n (formatPlan P (d .media)) c) where
+    pub format-cuts : budget < n → give (CUT budget) (deviceOf c (d .frames) downState) ≡ format P budget d
+    unfolding format
+    format-cuts l = spent-cut P budget (formatPlan P (d .media)) downState d n c s l ∙ admit-passed (mediaShape P (d .media)) d _ h
+
+    pub format-ends : n ≤ budget → give (done n) (deviceOf c (d .frames) downState) ≡ format P budget d
+    unfolding format
+    format-ends l = spent-done P budget (formatPlan P (d .media)) downState d n c s l ∙ admit-passed (mediaShape P (d .media)) d _ h

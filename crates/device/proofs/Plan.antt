@@ -1,23 +1,25 @@
 -- Laws of plans.
-use mathlib.Core.Path.{_≡_, refl, _∙_}
+use mathlib.Core.Path.{_≡_, refl, ap, _∙_}
 use mathlib.Core.Logic.{_≢_}
 use mathlib.Core.Bool.{Bool, true, false}
 use mathlib.Core.List.{List, [], _∷_, _++_}
-use Prim.Native.Nat.{ℕ, zero, suc, _≤_, _<_}
+use Prim.Native.Nat.{ℕ, zero, suc, _+_, _-_, _≤_, _<_}
+use native.Mathlib.Nat.{suc-sub-suc, sub-zero}
 use native.Mathlib.Omega.{arith}
 use lib.Dec.{leb}
-use lib.ListN.{length, take}
+use lib.ListN.{length, take, length-append}
+use lib.Seq.{take-nil, take-all}
 use borrow.Author.Tests.{lt-ltb, le-ltb, le-leb, lt-leb}
 use Rattle.answer.specs.Coded.{done, CUT}
 use Rattle.answer.specs.Admission.{test, firstRefusal}
 use Rattle.memory.proofs.Cases.{split-lt}
 use Rattle.media.specs.Geometry.{files, fileBytes, mediaBytes}
-use Rattle.media.specs.Write.{Media, MediaWrite, byteAt, sizeAt, applyAll, InLimits, fileOf, All}
-use Rattle.media.proofs.Write.{others-byte, others-size}
+use Rattle.media.specs.Write.{Media, MediaWrite, byteAt, sizeAt, apply, applyAll, InLimits, fileOf, All}
+use Rattle.media.proofs.Write.{all-append, others-byte, others-size}
 use Rattle.device.specs.declared.CacheState.{CacheState}
 use Rattle.device.specs.Device.{Device, deviceOf, downState}
 use Rattle.device.specs.Admission.{Result, give}
-use Rattle.device.specs.Plan.{writeIf, underBudget}
+use Rattle.device.specs.Plan.{writeIf, underBudget, Spent}
 
 -- ---- lists of writes
 
@@ -45,6 +47,14 @@ unfolding writeIf
 at-most-one true w = omega arith
 at-most-one false w = omega arith
 
+pub write-needed : (b : Bool) (w : MediaWrite) → b ≡ true → writeIf b w ≡ w ∷ []
+unfolding writeIf
+write-needed b w e = rw e
+
+pub write-unneeded : (b : Bool) (w : MediaWrite) → b ≡ false → writeIf b w ≡ []
+unfolding writeIf
+write-unneeded b w e = rw e
+
 -- ---- a plan under a budget: cut, or done
 
 module _ (P budget : ℕ) (plan : List MediaWrite) (s : CacheState) (d : Device) where
@@ -59,6 +69,52 @@ module _ (P budget : ℕ) (plan : List MediaWrite) (s : CacheState) (d : Device)
   budget-answer =
       budget-by (λ r. r .answer ≡ firstRefusal (test (leb (length plan) budget) (CUT budget) ∷ []) (done (length plan)))
       (λ l. rw (lt-leb _ _ l)) (λ l. rw (le-leb _ _ l))
+
+-- ---- a plan that is carried out write by write
+
+take-join : {A : Type 0} (b : ℕ) (xs ys : List A) → take b (xs ++ ys) ≡ take b xs ++ take (b - length xs) ys
+take-join b [] ys = rw (take-nil, sub-zero)
+take-join zero (x ∷ xs) ys = let z : zero - length (x ∷ xs) ≡ 0 = omega arith in rw z
+take-join (suc b) (x ∷ xs) ys = rw suc-sub-suc (ap (λ l. x ∷ l) (take-join b xs ys))
+
+module _ (P budget : ℕ) (m : Media) (needed : ℕ) where
+  -- the part is one write, which the budget pays for or not; or it is none
+  module _ (ws : List MediaWrite) where
+    pub spent-paid : (w : MediaWrite) (c : Media) → ws ≡ w ∷ [] → needed < budget → c ≡ apply P m w → Spent P budget m needed (needed + 1) ws c
+    spent-paid w c e h ec = record { count = rw e; media = rw (e, take-all (budget - needed) (w ∷ []) (omega arith)) ec }
+
+    pub spent-unpaid : (w : MediaWrite) → ws ≡ w ∷ [] → budget ≤ needed → Spent P budget m needed (needed + 1) ws m
+    spent-unpaid w e h = record { count = rw e; media = let q : budget - needed ≡ 0 = omega arith in rw q }
+
+    pub spent-none : ws ≡ [] → Spent P budget m needed needed ws m
+    spent-none e = record { count = rw e (omega arith); media = rw (e, take-nil) }
+
+  -- one part after another
+  pub spent-join : (c e : Media) (n k : ℕ) (ws vs : List MediaWrite) → Spent P budget m needed n ws c → Spent P budget c n k vs e → Spent P budget m needed k (ws ++ vs) e
+  spent-join c e n k ws vs x y =
+      let q : budget - n ≡ budget - needed - length ws = omega (arith, x .count) in
+      record {
+        count = omega (arith, x .count, y .count, length-append ws vs);
+        media = y .media ∙ rw (take-join (budget - needed) ws vs, all-append, ← (x .media), ← q);
+      }
+
+-- the whole plan: what the call gives where it is cut, and where it is done
+module _ (P budget : ℕ) (plan : List MediaWrite) (s : CacheState) (d : Device) (n : ℕ) (c : Media) (x : Spent P budget (d .media) 0 n plan c) where
+  pub spent-cut : budget < n → give (CUT budget) (deviceOf c (d .frames) downState) ≡ underBudget P budget plan s d
+  unfolding underBudget
+  spent-cut l =
+      let k : budget < length plan = omega (arith, x .count) in
+      let e : c ≡ applyAll P (d .media) (take budget plan) = rw sub-zero at (x .media) in
+      ap (λ (m : Media). give (CUT budget) (deviceOf m (d .frames) downState)) e ∙ rw (lt-ltb budget (length plan) k)
+
+  pub spent-done : n ≤ budget → give (done n) (deviceOf c (d .frames) s) ≡ underBudget P budget plan s d
+  unfolding underBudget
+  spent-done l =
+      let en : n ≡ length plan = omega (arith, x .count) in
+      let k : length plan ≤ budget = omega arith in
+      let q : budget - 0 ≡ budget = omega arith in
+      let e : c ≡ applyAll P (d .media) plan = x .media ∙ rw (q, take-all budget plan k) in
+      rw (en, e) (rw (le-ltb budget (length plan) k))
 
 -- ---- writes to one file
 

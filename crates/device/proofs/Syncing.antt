@@ -2,32 +2,38 @@
 use mathlib.Core.Path.{_≡_, refl, sym, ap, _∙_}
 use mathlib.Core.Logic.{_≢_, _⊎_, inl, inr}
 use mathlib.Core.Bool.{true, false, cond, not}
-use mathlib.Core.List.{List, _++_}
+use mathlib.Core.List.{List, [], _∷_, _++_, map, append-nil, append-assoc}
 use Prim.Native.Nat.{ℕ, zero, suc, _+_, _-_, _*_, _/_, _%_, _≤_, _<_}
 use native.Mathlib.Nat.{le-of-suc-le-suc}
 use native.Mathlib.Omega.{arith}
+use native.Mathlib.Numerals.{add-one}
 use lib.Dec.{eqb, ltb}
 use lib.ListN.{length, getD, take, length-append, length-set}
 use lib.Seq.{getD-set-same, getD-set-other, take-nil, take-append-le, take-length}
 use borrow.Author.Tests.{eq-eqb, ne-eqb, lt-ltb, le-ltb, ltb-true, ltb-false, le-leb, lt-leb}
 use borrow.Table.Steps.{cases}
-use Rattle.answer.specs.Coded.{refused, done, CUT}
+use Rattle.answer.specs.Coded.{refused, done, CUT, codedRefusal}
+use Rattle.answer.specs.Admission.{firstRefusal}
+use Rattle.answer.specs.declared.Refusal.{Refusal}
+use Rattle.answer.proofs.Admission.{passed}
 use Rattle.memory.specs.Bytes.{part}
 use Rattle.memory.proofs.Cases.{split-lt, split-eq}
 use Rattle.memory.proofs.Bytes.{length-part, getD-part}
 use Rattle.media.specs.Geometry.{files, pagesPerFile, pageBytes, fileBytes, mediaBytes}
 use Rattle.media.specs.Write.{Media, MediaWrite, byteAt, sizeAt, apply, applyAll, All}
-use Rattle.media.specs.Write.MediaWrite.{page, trim}
+use Rattle.media.specs.Write.MediaWrite.{page, size, trim}
 use Rattle.media.proofs.Write.{bytes-stay, sizes-stay, byte-after-page, byte-after-trim, all-append, all-bytes-stay, all-sizes-stay}
-use Rattle.device.specs.Device.{Device, deviceOf, slotCount, framesBytes, frameStart, slotOf, isCached, logicalAt, floorAt, downState}
+use Rattle.device.specs.Device.{Device, deviceOf, slotCount, framesBytes, frameStart, slotOf, isCached, logicalAt, floorAt, freeWhere, downState}
 use Rattle.device.specs.Current.{currentAt}
-use Rattle.device.specs.Admission.{Result, give}
-use Rattle.device.specs.Plan.{writeIf}
+use Rattle.device.specs.Admission.{Result, give, fileTests}
+use Rattle.device.specs.Plan.{writeIf, Spent}
 use Rattle.device.specs.Syncing.{trimWrites, pageWrite, pageWrites, sizeWrites, syncPlan, pagesOf, syncedState, sync}
+use Rattle.device.specs.Truncating.{pagesFrom}
+use Rattle.device.specs.declared.Slot.{Slot}
 use Rattle.device.proofs.Current.{current-cached, current-media, current-zero, current-same}
 use Rattle.device.proofs.Device.{slot-gone, slot-stays}
-use Rattle.device.proofs.Admission.{Admitted, file-by}
-use Rattle.device.proofs.Plan.{all-join, all-if, at-most-one, budget-by, Own, own-other-byte, own-other-size}
+use Rattle.device.proofs.Admission.{Admitted, file-by, admit-refused, admit-passed}
+use Rattle.device.proofs.Plan.{all-join, all-if, at-most-one, budget-by, spent-cut, spent-done, Own, own-other-byte, own-other-size}
 use Rattle.device.proofs.Sound.{Fit, freed-fit}
 
 -- a sync is refused with everything as it came, cut, or done
@@ -381,3 +387,65 @@ module _ (P : ℕ) (d : Device) (f : ℕ) (r : Ready P d f) where
               (λ ne. rw (synced-size-other g ne) (x .stored-fits g h));
         };
       }
+
+-- ---- the code of a sync
+
+-- which writes are needed, and which not
+module _ (d : Device) (f : ℕ) where
+  pub trim-needed : floorAt d f < sizeAt (d .media) f → trimWrites d f ≡ trim f (floorAt d f) ∷ []
+  unfolding trimWrites writeIf
+  trim-needed h = rw (lt-ltb _ _ h)
+
+  pub trim-unneeded : sizeAt (d .media) f ≤ floorAt d f → trimWrites d f ≡ []
+  unfolding trimWrites writeIf
+  trim-unneeded h = rw (le-ltb _ _ h)
+
+  module _ (p k : ℕ) (e : k ≡ slotOf d f p) where
+    pub page-needed : k < slotCount → pageWrite d f p ≡ page f p (part (d .frames) (frameStart k) pageBytes) ∷ []
+    unfolding pageWrite writeIf
+    page-needed h = let l : slotOf d f p < slotCount = omega arith in rw (lt-ltb _ _ l, ← e)
+
+    pub page-unneeded : slotCount ≤ k → pageWrite d f p ≡ []
+    unfolding pageWrite writeIf
+    page-unneeded h = let l : slotCount ≤ slotOf d f p = omega arith in rw (le-ltb _ _ l)
+
+  pub size-needed : logicalAt d f ≢ floorAt d f → sizeWrites d f ≡ size f (logicalAt d f) ∷ []
+  unfolding sizeWrites writeIf
+  size-needed h = rw (ne-eqb _ _ h)
+
+  pub size-unneeded : logicalAt d f ≡ floorAt d f → sizeWrites d f ≡ []
+  unfolding sizeWrites writeIf
+  size-unneeded h = rw (eq-eqb _ _ h)
+
+  -- one page more
+  pub pages-more : (n p : ℕ) → pageWrites d f (n + 1) p ≡ pageWrites d f n p ++ pageWrite d f (p + n)
+  unfolding pageWrites
+  pages-more n p = rw add-one (go n p)
+    where
+      go : (n p : ℕ) → pageWrites d f (suc n) p ≡ pageWrites d f n p ++ pageWrite d f (p + n)
+      go zero p = let e : p + 0 ≡ p = omega arith in rw (append-nil, e)
+      go (suc n) p = let e : suc p + n ≡ p + suc n = omega arith in rw (append-assoc, ← e) (ap (λ l. pageWrite d f p ++ l) (go n (suc p)))
+
+-- the pages of a file that begin at or past 0 are all its pages
+pub free-all : (f : ℕ) (slots : List Slot) → map (freeWhere (pagesFrom f 0)) slots ≡ map (freeWhere (pagesOf f)) slots
+unfolding freeWhere
+free-all f [] = refl
+free-all f (s ∷ slots) = rw (one s) (ap (λ l. freeWhere (pagesOf f) s ∷ l) (free-all f slots))
+  where
+    one : (s : Slot) → freeWhere (pagesFrom f 0) s ≡ freeWhere (pagesOf f) s
+    one s = cases (eqb (s .file) f) (λ e. rw (e, le-leb 0 (pageBytes * s .page) (omega arith))) (λ e. rw e)
+
+-- refused, cut or done
+module _ (P f budget : ℕ) (d : Device) where
+  pub sync-refused : (x : Refusal) → codedRefusal x ≡ firstRefusal (fileTests P d f true) (done 0) → give (codedRefusal x) d ≡ sync P f budget d
+  unfolding sync
+  sync-refused x e = admit-refused (fileTests P d f true) d _ x e
+
+  module _ (h : passed (fileTests P d f true) ≡ true) (n : ℕ) (c : Media) (s : Spent P budget (d .media) 0 n (syncPlan P d f) c) where
+    pub sync-cuts : budget < n → give (CUT budget) (deviceOf c (d .frames) downState) ≡ sync P f budget d
+    unfolding sync
+    sync-cuts l = spent-cut P budget (syncPlan P d f) (syncedState (d .cache) f) d n c s l ∙ admit-passed (fileTests P d f true) d _ h
+
+    pub sync-ends : n ≤ budget → give (done n) (deviceOf c (d .frames) (syncedState (d .cache) f)) ≡ sync P f budget d
+    unfolding sync
+    sync-ends l = spent-done P budget (syncPlan P d f) (syncedState (d .cache) f) d n c s l ∙ admit-passed (fileTests P d f true) d _ h

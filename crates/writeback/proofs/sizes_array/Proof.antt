@@ -1,0 +1,67 @@
+-- The first i sizes are copied.
+use borrow.Author.Needs.{needs}
+use mathlib.Core.Path.{_≡_, refl, _∙_, ap}
+use mathlib.Core.List.{List, _++_}
+use Prim.Native.Nat.{ℕ, _≤_, _-_}
+use native.Mathlib.Omega.{arith}
+use lib.ListN.{length, take, drop, set, getD}
+use Rattle.media.specs.Geometry.{files}
+use Rattle.device.proofs.Loops.{copy-more, copy-done}
+use Rattle.writeback.proofs.sizes_array.Statement.{statement}
+use Rattle.writeback.proofs.sizes_array.Tie as tie
+
+abbrev Inv-loop : tie.InvT-loop
+Inv-loop sizes found₀ i₀ found i = (found ≡ take i sizes ++ drop i found₀) × (i ≤ files) × (length found₀ ≡ files)
+
+abbrev μ-loop : tie.MeasureT-loop
+μ-loop sizes found₀ i₀ found i = files - i
+
+loop-holds : tie.Need-loop-holds Inv-loop μ-loop
+loop-holds c = (refl, search needs, search needs)
+
+mul-found : tie.Need-mul-found Inv-loop μ-loop
+mul-found c = search needs
+
+shared-slice-read-found : tie.Need-shared-slice-read-found Inv-loop μ-loop
+shared-slice-read-found c = search needs
+
+mul-found-2 : tie.Need-mul-found-2 Inv-loop μ-loop
+mul-found-2 c = search needs
+
+array-write-found : tie.Need-array-write-found Inv-loop μ-loop
+array-write-found c = search needs
+
+add-i : tie.Need-add-i Inv-loop μ-loop
+add-i c = search needs
+
+loop-less : tie.Need-loop-less Inv-loop μ-loop
+loop-less c = search needs
+
+loop-again : tie.Need-loop-again Inv-loop μ-loop
+loop-again c =
+    let l = c .before .before in
+    let a = l .before .args in
+    let i : ℕ = l .loop .i in
+    (ap (λ (t : List ℕ). set t i (getD (a .sizes .now) i 0)) (l .loop .inv .0) ∙ copy-more i (a .sizes .now) _ (omega arith) (omega arith), search needs, refl)
+
+returns : tie.Need-returns Inv-loop μ-loop
+returns c =
+    let l = c .before in
+    let a = l .before .args in
+    l .loop .inv .0 ∙ copy-done (l .loop .i) (a .sizes .now) _ (omega arith) (omega arith)
+
+pub sizes-array-spec : {M : Type 1} → statement M
+sizes-array-spec =
+    tie.close
+    (tie.spec
+    Inv-loop
+    μ-loop
+    loop-holds
+    mul-found
+    shared-slice-read-found
+    mul-found-2
+    array-write-found
+    add-i
+    loop-less
+    loop-again
+    returns)
