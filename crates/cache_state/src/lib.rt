@@ -5,6 +5,7 @@ use device::CacheState;
 use device::FileSizes;
 use device::Slot;
 ghost use mathlib.Core.Path.{_≡_};
+ghost use mathlib.Core.Bool.{true};
 ghost use mathlib.Core.List.{map};
 ghost use Prim.Native.Nat.{_<_, _^_};
 ghost use lib.ListN.{getD};
@@ -164,6 +165,22 @@ fn slots_in_range(cache: CacheState, pages: usize) -> bool
     true
 }
 
+// Whether slot k, which holds the page, is the first that does.
+fn is_first(cache: CacheState, file: usize, page: usize, k: usize) -> bool
+    requires { ⌜ (k < slotCount) × (holds file page (getD (cache .slots) k freeSlot) ≡ true) ⌝ }
+    ensures { λ r. ⌜ r ≡ eqb (firstIndex (holds file page) (cache .slots)) k ⌝ }
+{
+    let slots = cache.slots;
+    let mut j = 0;
+    while j < k {
+        if holds(slots[j], file, page) {
+            return false;
+        }
+        j += 1;
+    }
+    true
+}
+
 // Whether slot k is free, or the first that holds its page.
 fn holds_alone(cache: CacheState, k: usize) -> bool
     requires { ⌜ k < slotCount ⌝ }
@@ -174,7 +191,7 @@ fn holds_alone(cache: CacheState, k: usize) -> bool
     if s.used {
         let f = s.file as usize;
         let p = s.page as usize;
-        return slot_of(cache, f, p) == k;
+        return is_first(cache, f, p, k);
     }
     true
 }
