@@ -8,15 +8,32 @@ ghost use mathlib.Core.Path.{_≡_};
 ghost use mathlib.Core.List.{List};
 ghost use Prim.Native.Nat.{_+_, _≤_, _<_, _^_, ℕ, _%_};
 ghost use lib.ListN.{length};
-ghost use Rattle.answer.specs.Coded.{coded};
+ghost use lib.Dec.{leb};
+ghost use Rattle.answer.specs.Coded.{coded, done};
+ghost use Rattle.answer.specs.Admission.{firstRefusal};
 ghost use Rattle.memory.specs.Bytes.{overwrite};
 ghost use Rattle.media.specs.Geometry.{files, fileBytes, mediaBytes, pageBytes, pagesPerFile};
 ghost use Rattle.media.specs.Write.{mediaOf};
 ghost use Rattle.device.specs.Device.{deviceOf, framesBytes};
 ghost use Rattle.device.specs.Current.{currentBytes};
-ghost use Rattle.device.specs.Admission.{give};
+ghost use Rattle.device.specs.Admission.{give, fileTests};
 ghost use Rattle.device.specs.Reading.{read};
 ghost use Rattle.device.specs.Looking.{toPageEnd, lookCount, look};
+
+// The refusals of a call at a position of a file, in their order.
+fn admit_at(
+    media: &[u8],
+    sizes: &[u32],
+    frames: &[u8],
+    cache: CacheState,
+    file: usize,
+    position: usize,
+) -> Answer
+    ensures { λ r. ⌜ coded r ≡ firstRefusal (fileTests pagesPerFile (deviceOf (mediaOf (now (media .entry)) (now (sizes .entry))) (now (frames .entry)) cache) file (leb position (fileBytes pagesPerFile))) (done 0) ⌝ }
+{
+    let greatest = PAGE_BYTES * PAGES_PER_FILE;
+    cache_state::admit(media, sizes, frames, cache, file, position <= greatest)
+}
 
 // The current bytes of a file from `at` on, within one page, fill the buffer.
 fn read_page(
@@ -85,8 +102,7 @@ pub fn read(
     ensures { λ r. ⌜ give (coded r) (now (buffer .exit))
         ≡ read pagesPerFile file position (now (buffer .entry)) (deviceOf (mediaOf (now (media .entry)) (now (sizes .entry))) (now (frames .entry)) cache) ⌝ }
 {
-    let file_len = PAGE_BYTES * PAGES_PER_FILE;
-    let admission = cache_state::admit(media, sizes, frames, cache, file, position <= file_len);
+    let admission = admit_at(media, sizes, frames, cache, file, position);
     match admission {
         Answer::Refused(refusal) => Answer::Refused(refusal),
         Answer::Done(_) => {
@@ -131,8 +147,7 @@ pub fn look<'a>(
 ) -> &'a [u8]
     ensures { λ r. ⌜ now r ≡ look pagesPerFile file position (deviceOf (mediaOf (now (media .entry)) (now (sizes .entry))) (now (frames .entry)) cache) ⌝ }
 {
-    let file_len = PAGE_BYTES * PAGES_PER_FILE;
-    let admission = cache_state::admit(media, sizes, frames, cache, file, position <= file_len);
+    let admission = admit_at(media, sizes, frames, cache, file, position);
     match admission {
         Answer::Refused(_) => &media[..0],
         Answer::Done(_) => {
@@ -144,7 +159,7 @@ pub fn look<'a>(
                 return &frames[from..end];
             }
             let floors = cache.floor;
-            let from = file * file_len + position;
+            let from = file * (PAGE_BYTES * PAGES_PER_FILE) + position;
             let end = from + to_page_end(position, floors[file] as usize);
             &media[from..end]
         }
@@ -162,8 +177,7 @@ pub fn look_count(
 ) -> Answer
     ensures { λ r. ⌜ coded r ≡ lookCount pagesPerFile file position (deviceOf (mediaOf (now (media .entry)) (now (sizes .entry))) (now (frames .entry)) cache) ⌝ }
 {
-    let greatest = PAGE_BYTES * PAGES_PER_FILE;
-    let admission = cache_state::admit(media, sizes, frames, cache, file, position <= greatest);
+    let admission = admit_at(media, sizes, frames, cache, file, position);
     match admission {
         Answer::Refused(refusal) => Answer::Refused(refusal),
         Answer::Done(_) => {

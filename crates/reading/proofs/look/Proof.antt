@@ -1,4 +1,4 @@
--- `reading::look` meets its contract: refused as `admit` says, or a part of the frames or of the media.
+-- `reading::look` meets its contract: refused as `admit_at` says, or a part of the frames or of the media.
 use mathlib.Core.Path.{_≡_, _∙_, ap}
 use Prim.Native.Nat.{ℕ, _+_, _-_, _%_, _≤_}
 use native.Mathlib.Omega.{arith}
@@ -18,18 +18,15 @@ use Rattle.reading.proofs.look.Tie as tie
 abbrev device : tie.Start → Device
 device c = deviceOf (mediaOf (c .args .media .now) (c .args .sizes .now)) (c .args .frames .now) (c .args .cache)
 
--- what `admit` has tested
+-- what `admit_at` has tested
 ready : (c : tie.After-enum-told2) → Admitted pagesPerFile (device (c .before .before .before .before .before .before)) (c .before .before .before .before .before .before .args .file) (leb (c .before .before .before .before .before .before .args .position) (fileBytes pagesPerFile))
-ready c = file-ready pagesPerFile (device (c .before .before .before .before .before .before)) _ _ (c .before .before .admit .result) (c .before .before .admit .ensures) _ (c .enum-told2 .given .1)
+ready c = file-ready pagesPerFile (device (c .before .before .before .before .before .before)) _ _ (c .before .before .admit-at .result) (c .before .before .admit-at .ensures) _ (c .enum-told2 .given .1)
 
 in-limits : (c : tie.After-enum-told2) → c .before .before .before .before .before .before .args .position ≤ fileBytes pagesPerFile
 in-limits c = leb-true _ _ (ready c .in-range)
 
-mul-file-len : tie.Need-mul-file-len
-mul-file-len c = search needs
-
-admit-requires : tie.Need-admit-requires
-admit-requires c κs = search needs
+admit-at-requires : tie.Need-admit-at-requires
+admit-at-requires c κs = search needs
 
 enum-told : tie.Need-enum-told
 enum-told c = search needs
@@ -82,10 +79,13 @@ returns c =
     let from : ℕ = frameStart k + s .args .position % pageBytes in
     let q : from + e .to-page-end .result - from ≡ e .to-page-end .result = omega arith in
     ap (λ (n : ℕ). part (s .args .frames .now) from n) q
-    ∙ look-cached pagesPerFile (s .args .file) (s .args .position) (device s) (file-passed pagesPerFile (device s) _ _ (t .before .before .admit .result) (t .before .before .admit .ensures) _ (t .enum-told2 .given .1)) k (c .before .before .before .before .slot-of .ensures) _ (omega arith) (e .to-page-end .ensures)
+    ∙ look-cached pagesPerFile (s .args .file) (s .args .position) (device s) (file-passed pagesPerFile (device s) _ _ (t .before .before .admit-at .result) (t .before .before .admit-at .ensures) _ (t .enum-told2 .given .1)) k (c .before .before .before .before .slot-of .ensures) _ (omega arith) (e .to-page-end .ensures)
 
 mul-from-2 : tie.Need-mul-from-2
-mul-from-2 c = omega (arith, ready (c .before .before .before) .file)
+mul-from-2 c = search needs
+
+mul-from-3 : tie.Need-mul-from-3
+mul-from-3 c = omega (arith, ready (c .before .before .before) .file)
 
 add-from-2 : tie.Need-add-from-2
 add-from-2 c = omega (arith, ready (c .before .before .before) .file, in-limits (c .before .before .before))
@@ -122,7 +122,7 @@ returns-2 c =
     let b = c .before .before .before in
     let s = b .before .before .before .before in
     let x = c .before .enum-told .given .0 .0 in
-    look-refused pagesPerFile (s .args .file) (s .args .position) (device s) x (file-refused pagesPerFile (device s) _ _ (b .admit .result) (b .admit .ensures) x (c .before .enum-told .given .1))
+    look-refused pagesPerFile (s .args .file) (s .args .position) (device s) x (file-refused pagesPerFile (device s) _ _ (b .admit-at .result) (b .admit-at .ensures) x (c .before .enum-told .given .1))
 
 returns-3 : tie.Need-returns-3
 unfolding fileStart
@@ -133,14 +133,13 @@ returns-3 c =
     let from : ℕ = fileStart pagesPerFile (s .args .file) + s .args .position in
     let q : from + e .to-page-end2 .result - from ≡ e .to-page-end2 .result = omega arith in
     ap (λ (n : ℕ). part (s .args .media .now) from n) q
-    ∙ look-media pagesPerFile (s .args .file) (s .args .position) (device s) (file-passed pagesPerFile (device s) _ _ (t .before .before .admit .result) (t .before .before .admit .ensures) _ (t .enum-told2 .given .1)) _ (c .before .before .before .before .slot-of .ensures) _ (omega arith) (e .to-page-end2 .ensures)
+    ∙ look-media pagesPerFile (s .args .file) (s .args .position) (device s) (file-passed pagesPerFile (device s) _ _ (t .before .before .admit-at .result) (t .before .before .admit-at .ensures) _ (t .enum-told2 .given .1)) _ (c .before .before .before .before .slot-of .ensures) _ (omega arith) (e .to-page-end2 .ensures)
 
 pub look-spec : {M : Type 1} → statement M
 look-spec =
     tie.close
     (tie.spec
-    mul-file-len
-    admit-requires
+    admit-at-requires
     enum-told
     slice-aggregate-result
     enum-told-2
@@ -157,6 +156,7 @@ look-spec =
     part-result-end
     returns
     mul-from-2
+    mul-from-3
     add-from-2
     mul-to-page-end-2
     array-read-to-page-end-2

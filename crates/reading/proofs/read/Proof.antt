@@ -1,4 +1,4 @@
--- `reading::read` meets its contract: refused as `admit` says, or the current bytes.
+-- `reading::read` meets its contract: refused as `admit_at` says, or the current bytes.
 use Prim.Native.Nat.{_≤_}
 use native.Mathlib.Omega.{arith}
 use lib.Dec.{leb}
@@ -17,16 +17,13 @@ use Rattle.reading.proofs.read.Tie as tie
 device : tie.Start → Device
 device c = deviceOf (mediaOf (c .args .media .now) (c .args .sizes .now)) (c .args .frames .now) (c .args .cache)
 
--- what `admit` has tested
+-- what `admit_at` has tested
 ready : (c : tie.After-enum-told) → Admitted pagesPerFile (device (c .before .before .before .before .before .before .before)) (c .before .before .before .before .before .before .before .args .file) (leb (c .before .before .before .before .before .before .before .args .position) (fileBytes pagesPerFile))
 unfolding device
-ready c = file-ready pagesPerFile (device (c .before .before .before .before .before .before .before)) _ _ (c .before .before .admit .result) (c .before .before .admit .ensures) _ (c .enum-told .given .1)
+ready c = file-ready pagesPerFile (device (c .before .before .before .before .before .before .before)) _ _ (c .before .before .admit-at .result) (c .before .before .admit-at .ensures) _ (c .enum-told .given .1)
 
-mul-file-len : tie.Need-mul-file-len
-mul-file-len c = search needs
-
-admit-requires : tie.Need-admit-requires
-admit-requires c κs = search needs
+admit-at-requires : tie.Need-admit-at-requires
+admit-at-requires c κs = search needs
 
 enum-known-admission : tie.Need-enum-known-admission
 enum-known-admission c = search needs
@@ -64,7 +61,7 @@ returns c =
     let b = c .before .before .before in
     let s = b .before .before .before .before .before in
     let x = c .before .admission .given .0 .0 in
-    read-refused pagesPerFile (s .args .file) (s .args .position) (s .args .buffer .now) (device s) x (file-refused pagesPerFile (device s) _ _ (b .admit .result) (b .admit .ensures) x (c .before .admission .given .1))
+    read-refused pagesPerFile (s .args .file) (s .args .position) (s .args .buffer .now) (device s) x (file-refused pagesPerFile (device s) _ _ (b .admit-at .result) (b .admit-at .ensures) x (c .before .admission .given .1))
 
 same-length : tie.Need-same-length
 same-length c = search needs
@@ -76,15 +73,14 @@ returns-2 c =
     let t = n .before .before .before in
     let s = t .before .before .before .before .before .before .before in
     read-done pagesPerFile (s .args .file) (s .args .position) (s .args .buffer .now) (device s) (n .min .result) _
-    (file-passed pagesPerFile (device s) _ _ (t .before .before .admit .result) (t .before .before .admit .ensures) _ (t .enum-told .given .1))
+    (file-passed pagesPerFile (device s) _ _ (t .before .before .admit-at .result) (t .before .before .admit-at .ensures) _ (t .enum-told .given .1))
     (omega arith) (c .before .before .read-pages .ensures (s .args .sizes .now))
 
 pub read-spec : {M : Type 1} → statement M
 read-spec =
     tie.close
     (tie.spec
-    mul-file-len
-    admit-requires
+    admit-at-requires
     enum-known-admission
     enum-told
     mul-saturating-sub
