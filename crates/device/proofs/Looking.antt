@@ -1,5 +1,5 @@
 -- What a look hands back: current bytes, from its position on.
-use mathlib.Core.Path.{_≡_, sym, ap, _∙_}
+use mathlib.Core.Path.{_≡_, sym, ap, _∙_, refl}
 use mathlib.Core.Logic.{_≢_}
 use mathlib.Core.List.{List, [], _∷_}
 use mathlib.Core.Bool.{true, false≢true}
@@ -23,7 +23,7 @@ use Rattle.media.proofs.Geometry.{file-end}
 use Rattle.device.specs.Device.{Device, slotCount, framesBytes, frameStart, slotOf, logicalAt, floorAt}
 use Rattle.device.specs.Current.{currentAt}
 use Rattle.device.specs.Admission.{mediaShape, framesShape, sizesFit, stateTests, fileTests}
-use Rattle.device.specs.Looking.{toPageEnd, lookCount, lookedAt, look}
+use Rattle.device.specs.Looking.{toPageEnd, lookCount, lookedAt, look, placeOf, lookPlace}
 use Rattle.device.proofs.Admission.{Admitted, file-changeless, file-admitted}
 use Rattle.device.proofs.Current.{current-cached, current-media, current-zero}
 use Rattle.device.proofs.Sound.{Fit}
@@ -144,3 +144,23 @@ module _ (P f position : ℕ) (d : Device) where
     pub look-media : (n : ℕ) → slotCount ≤ k → n ≡ toPageEnd position (floorAt d f) → part (d .media .bytes) (fileStart P f + position) n ≡ look P f position d
     unfolding lookedAt
     look-media n l en = let q : slotCount ≤ slotOf d f (position / pageBytes) = omega arith in rw en (sym (looked ∙ rw (le-ltb _ _ q)))
+
+-- ---- where its part lies
+
+module _ (P f position : ℕ) (media frames : ℕ × ℕ) (d : Device) where
+  pub place-refused : (x : Refusal) → codedRefusal x ≡ firstRefusal (fileTests P d f (leb position (fileBytes P))) (done 0) → media ≡ lookPlace P f position media frames d
+  unfolding lookPlace lookCount
+  place-refused x e = sym (if-refused (lookCount P f position d) x _ media (count-refused P f position d x e))
+
+  module _ (h : passed (fileTests P d f (leb position (fileBytes P))) ≡ true) (k : ℕ) (e : k ≡ slotOf d f (position / pageBytes)) where
+    pub place-cached : k < slotCount → placeOf frames (frameStart k + position % pageBytes) ≡ lookPlace P f position media frames d
+    unfolding lookPlace
+    place-cached l =
+        let q : slotOf d f (position / pageBytes) < slotCount = omega arith in
+        rw (← (count-done P f position d _ h refl), lt-ltb _ _ q, e)
+
+    pub place-media : slotCount ≤ k → placeOf media (fileStart P f + position) ≡ lookPlace P f position media frames d
+    unfolding lookPlace
+    place-media l =
+        let q : slotCount ≤ slotOf d f (position / pageBytes) = omega arith in
+        rw (← (count-done P f position d _ h refl), le-ltb _ _ q)

@@ -28,3 +28,17 @@ lookedAt P f position d =
 -- empty on a refusal
 unfoldable pub look : ℕ → ℕ → ℕ → Device → List ℕ
 look P f position d = ifDone (lookCount P f position d) (lookedAt P f position d) []
+
+-- byte i of a slice that lies at a place: a block, and an offset in it
+abbrev pub placeOf : ℕ × ℕ → ℕ → ℕ × ℕ
+placeOf at i = (at .0, i + at .1)
+
+-- where the part lies, of media and page frames that lie at these places: never a copy, and in the page frames exactly where the
+-- page is cached. On a refusal it is the empty part at the start of the media
+unfoldable pub lookPlace : ℕ → ℕ → ℕ → ℕ × ℕ → ℕ × ℕ → Device → ℕ × ℕ
+lookPlace P f position media frames d =
+    ifDone (lookCount P f position d)
+    (cond (isCached d f (position / pageBytes))
+    (placeOf frames (frameStart (slotOf d f (position / pageBytes)) + position % pageBytes))
+    (placeOf media (fileStart P f + position)))
+    media

@@ -9,6 +9,7 @@ ghost use mathlib.Core.List.{List};
 ghost use Prim.Native.Nat.{_+_, _≤_, _<_, _^_, ℕ, _%_};
 ghost use lib.ListN.{length};
 ghost use lib.Dec.{leb};
+ghost use denote.Ref.{ptr};
 ghost use Rattle.answer.specs.Coded.{coded, done};
 ghost use Rattle.answer.specs.Admission.{firstRefusal};
 ghost use Rattle.memory.specs.Bytes.{overwrite};
@@ -18,7 +19,7 @@ ghost use Rattle.device.specs.Device.{deviceOf, framesBytes};
 ghost use Rattle.device.specs.Current.{currentBytes};
 ghost use Rattle.device.specs.Admission.{give, fileTests};
 ghost use Rattle.device.specs.Reading.{read};
-ghost use Rattle.device.specs.Looking.{toPageEnd, lookCount, look};
+ghost use Rattle.device.specs.Looking.{toPageEnd, lookCount, look, lookPlace};
 
 // The refusals of a call at a position of a file, in their order.
 fn admit_at(
@@ -145,7 +146,8 @@ pub fn look<'a>(
     file: usize,
     position: usize,
 ) -> &'a [u8]
-    ensures { λ r. ⌜ now r ≡ look pagesPerFile file position (deviceOf (mediaOf (now (media .entry)) (now (sizes .entry))) (now (frames .entry)) cache) ⌝ }
+    ensures { λ r. ⌜ (now r ≡ look pagesPerFile file position (deviceOf (mediaOf (now (media .entry)) (now (sizes .entry))) (now (frames .entry)) cache))
+        × (ptr r ≡ lookPlace pagesPerFile file position (ptr (media .entry)) (ptr (frames .entry)) (deviceOf (mediaOf (now (media .entry)) (now (sizes .entry))) (now (frames .entry)) cache)) ⌝ }
 {
     let admission = admit_at(media, sizes, frames, cache, file, position);
     match admission {

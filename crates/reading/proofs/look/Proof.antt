@@ -11,7 +11,7 @@ use Rattle.media.specs.Write.{mediaOf}
 use Rattle.device.specs.Device.{Device, deviceOf, frameStart}
 use Rattle.device.proofs.Admission.{Admitted, file-passed, file-refused, file-ready}
 use Rattle.device.proofs.Sound.{sound-sizes}
-use Rattle.device.proofs.Looking.{look-refused, look-cached, look-media}
+use Rattle.device.proofs.Looking.{look-refused, look-cached, look-media, place-refused, place-cached, place-media}
 use Rattle.reading.proofs.look.Statement.{statement}
 use Rattle.reading.proofs.look.Tie as tie
 
@@ -75,11 +75,14 @@ returns c =
     let e = c .before in
     let t = c .before .before .before .before .before in
     let s = t .before .before .before .before .before .before in
-    let k = c .before .before .before .before .slot-of .result in
-    let from : ℕ = frameStart k + s .args .position % pageBytes in
+    let m = c .before .before .before .before in
+    let from : ℕ = frameStart (m .slot-of .result) + s .args .position % pageBytes in
     let q : from + e .to-page-end .result - from ≡ e .to-page-end .result = omega arith in
-    ap (λ (n : ℕ). part (s .args .frames .now) from n) q
-    ∙ look-cached pagesPerFile (s .args .file) (s .args .position) (device s) (file-passed pagesPerFile (device s) _ _ (t .before .before .admit-at .result) (t .before .before .admit-at .ensures) _ (t .enum-told2 .given .1)) k (c .before .before .before .before .slot-of .ensures) _ (omega arith) (e .to-page-end .ensures)
+    let h = file-passed pagesPerFile (device s) _ _ (t .before .before .admit-at .result) (t .before .before .admit-at .ensures) _ (t .enum-told2 .given .1) in
+    (
+      ap (λ (n : ℕ). part (s .args .frames .now) from n) q ∙ look-cached pagesPerFile (s .args .file) (s .args .position) (device s) h _ (m .slot-of .ensures) _ (omega arith) (e .to-page-end .ensures),
+      place-cached pagesPerFile (s .args .file) (s .args .position) (s .args .media .ptr) (s .args .frames .ptr) (device s) h _ (m .slot-of .ensures) (omega arith),
+    )
 
 mul-from-2 : tie.Need-mul-from-2
 mul-from-2 c = search needs
@@ -122,7 +125,11 @@ returns-2 c =
     let b = c .before .before .before in
     let s = b .before .before .before .before in
     let x = c .before .enum-told .given .0 .0 in
-    look-refused pagesPerFile (s .args .file) (s .args .position) (device s) x (file-refused pagesPerFile (device s) _ _ (b .admit-at .result) (b .admit-at .ensures) x (c .before .enum-told .given .1))
+    let e = file-refused pagesPerFile (device s) _ _ (b .admit-at .result) (b .admit-at .ensures) x (c .before .enum-told .given .1) in
+    (
+      look-refused pagesPerFile (s .args .file) (s .args .position) (device s) x e,
+      place-refused pagesPerFile (s .args .file) (s .args .position) (s .args .media .ptr) (s .args .frames .ptr) (device s) x e,
+    )
 
 returns-3 : tie.Need-returns-3
 unfolding fileStart
@@ -130,10 +137,14 @@ returns-3 c =
     let e = c .before in
     let t = c .before .before .before .before .before in
     let s = t .before .before .before .before .before .before in
+    let m = c .before .before .before .before in
     let from : ℕ = fileStart pagesPerFile (s .args .file) + s .args .position in
     let q : from + e .to-page-end2 .result - from ≡ e .to-page-end2 .result = omega arith in
-    ap (λ (n : ℕ). part (s .args .media .now) from n) q
-    ∙ look-media pagesPerFile (s .args .file) (s .args .position) (device s) (file-passed pagesPerFile (device s) _ _ (t .before .before .admit-at .result) (t .before .before .admit-at .ensures) _ (t .enum-told2 .given .1)) _ (c .before .before .before .before .slot-of .ensures) _ (omega arith) (e .to-page-end2 .ensures)
+    let h = file-passed pagesPerFile (device s) _ _ (t .before .before .admit-at .result) (t .before .before .admit-at .ensures) _ (t .enum-told2 .given .1) in
+    (
+      ap (λ (n : ℕ). part (s .args .media .now) from n) q ∙ look-media pagesPerFile (s .args .file) (s .args .position) (device s) h _ (m .slot-of .ensures) _ (omega arith) (e .to-page-end2 .ensures),
+      place-media pagesPerFile (s .args .file) (s .args .position) (s .args .media .ptr) (s .args .frames .ptr) (device s) h _ (m .slot-of .ensures) (omega arith),
+    )
 
 pub look-spec : {M : Type 1} → statement M
 look-spec =
