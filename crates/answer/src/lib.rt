@@ -12,13 +12,13 @@ pub enum Refusal {
     Shape,
     // A stored size is above the greatest file size.
     Media,
-    // The cache state is not sound.
+    // The cache state is not sound, or the sizes of a file are not in their order.
     Books,
     // The device is not mounted.
     Down,
     // The file number is above the last file.
     NoFile,
-    // A position, a size, or a position with the length after it is above the greatest file size.
+    // A position, a size, or a position with the length after it is above the greatest file size; or a TRIM would grow the file.
     Range,
     // The first page of a write is not cached, and no page frame is free for it.
     NoRoom,

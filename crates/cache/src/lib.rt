@@ -2,16 +2,17 @@
 //
 // A call borrows the media (bytes and stored sizes), the page frames, and buffers of its own; the cache state goes in by value
 // and comes back. Start with `down_state` and a mount.
-use answer::Answer;
-use answer::Refusal;
+pub use answer::Answer;
+pub use answer::Refusal;
 pub use cache_state::down_state;
 pub use device::CacheState;
 pub use device::FileSizes;
 pub use device::Outcome;
 pub use device::SLOTS;
 pub use device::Slot;
-use media::PAGE_BYTES;
-use media::PAGES_PER_FILE;
+pub use media::FILES;
+pub use media::PAGE_BYTES;
+pub use media::PAGES_PER_FILE;
 pub use reading::look;
 pub use reading::look_count;
 pub use reading::read;
@@ -190,17 +191,18 @@ fn grow(cache: CacheState, file: usize, n: usize) -> CacheState
 {
     let logicals = cache.logical;
     let mut next = cache;
-    next.logical[file] = larger(logicals[file], n as u32);
+    next.logical[file] = max(logicals[file], n as u32);
     next
 }
 
-fn larger(a: u32, b: u32) -> u32
+fn max(a: u32, b: u32) -> u32
     ensures { λ r. ⌜ r ≡ max a b ⌝ }
 {
     if a <= b { b } else { a }
 }
 
-// Write: goes through the pages in ascending order until one has no slot.
+// Write: puts the bytes down page by page, ascending, until a page has no slot, and answers how many: fewer than asked where all
+// slots were taken. NO ROOM where not even the first page has one.
 pub fn write(
     media: &[u8],
     sizes: &[u32],
@@ -294,7 +296,7 @@ fn clear_tail(frames: &mut [u8], cache: CacheState, file: usize, n: usize)
     }
 }
 
-// Truncate: the file has n bytes after it.
+// Truncate: the file has n bytes after it: it is cut, or filled with zeros. The count is 0.
 pub fn truncate(
     media: &[u8],
     sizes: &[u32],
@@ -306,8 +308,8 @@ pub fn truncate(
     ensures { λ r. ⌜ give (coded (r .answer)) (deviceOf (mediaOf (now (media .entry)) (now (sizes .entry))) (now (frames .exit)) (r .cache))
         ≡ truncate pagesPerFile file n (deviceOf (mediaOf (now (media .entry)) (now (sizes .entry))) (now (frames .entry)) cache) ⌝ }
 {
-    let file_len = PAGE_BYTES * PAGES_PER_FILE;
-    let admission = cache_state::admit(media, sizes, frames, cache, file, n <= file_len);
+    let greatest = PAGE_BYTES * PAGES_PER_FILE;
+    let admission = cache_state::admit(media, sizes, frames, cache, file, n <= greatest);
     match admission {
         Answer::Refused(refusal) => Outcome {
             answer: Answer::Refused(refusal),
@@ -328,9 +330,9 @@ pub fn truncate(
 fn sizes_answer(s: FileSizes, n: usize, greatest: u32) -> Answer
     ensures { λ r. ⌜ coded r ≡ sizesAnswer greatest n s ⌝ }
 {
-    let g = greatest as usize;
-    if cache_state::in_order(s, g) {
-        if n <= g {
+    let limit = greatest as usize;
+    if cache_state::in_order(s, limit) {
+        if n <= limit {
             return Answer::Done(0);
         }
         return Answer::Refused(Refusal::Range);
@@ -338,24 +340,22 @@ fn sizes_answer(s: FileSizes, n: usize, greatest: u32) -> Answer
     Answer::Refused(Refusal::Books)
 }
 
-// The sizes of one file after the truncate rule.
+// The sizes of one file after the truncate rule: as they came where it refuses.
 fn sizes_after(s: FileSizes, n: usize, greatest: u32) -> FileSizes
     ensures { λ r. ⌜ r ≡ sizesAfter greatest n s ⌝ }
 {
-    let limit = greatest as usize;
-    if cache_state::in_order(s, limit) {
-        if n <= limit {
-            return truncated_sizes(s, n as u32);
-        }
+    let answer = sizes_answer(s, n, greatest);
+    match answer {
+        Answer::Refused(_) => s,
+        Answer::Done(_) => truncated_sizes(s, n as u32),
     }
-    s
 }
 
 // The truncate rule on a record that is borrowed to be altered, told the greatest file size.
-pub fn truncate_sizes(sizes: &mut FileSizes, n: usize, greatest: u32) -> Answer
-    ensures { λ r. ⌜ (coded r ≡ sizesAnswer greatest n (now (sizes .entry))) × (now (sizes .exit) ≡ sizesAfter greatest n (now (sizes .entry))) ⌝ }
+pub fn truncate_sizes(s: &mut FileSizes, n: usize, greatest: u32) -> Answer
+    ensures { λ r. ⌜ (coded r ≡ sizesAnswer greatest n (now (s .entry))) × (now (s .exit) ≡ sizesAfter greatest n (now (s .entry))) ⌝ }
 {
-    let old = *sizes;
-    *sizes = sizes_after(old, n, greatest);
+    let old = *s;
+    *s = sizes_after(old, n, greatest);
     sizes_answer(old, n, greatest)
 }

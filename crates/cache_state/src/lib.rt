@@ -210,7 +210,7 @@ fn slots_alone(cache: CacheState) -> bool
     true
 }
 
-// Whether the sizes of one file stand in their order.
+// Whether floor ≤ logical ≤ the greatest file size, and floor ≤ stored.
 pub fn in_order(s: FileSizes, greatest: usize) -> bool
     ensures { λ r. ⌜ r ≡ inOrder greatest s ⌝ }
 {
@@ -370,7 +370,7 @@ pub fn admit_mount(media: &[u8], sizes: &[u32]) -> Answer
     }
 }
 
-// SHAPE of the media and of the page frames, then MEDIA: what the calls on a file ask of the device before its cache state.
+// SHAPE of the media and of the page frames, then MEDIA: the first tests of the calls on a file.
 pub fn admit_device(media: &[u8], sizes: &[u32], frames: &[u8]) -> Answer
     ensures { λ r. ⌜ coded r ≡ firstRefusal (deviceTests pagesPerFile (mediaOf (now (media .entry)) (now (sizes .entry))) (now (frames .entry))) (done 0) ⌝ }
 {
@@ -380,19 +380,19 @@ pub fn admit_device(media: &[u8], sizes: &[u32], frames: &[u8]) -> Answer
     admit_mount(media, sizes)
 }
 
-// BOOKS, DOWN, NO FILE and RANGE: what they ask then.
-pub fn admit_state(sizes: &[u32], cache: CacheState, file: usize, in_range: bool) -> Answer
-    ensures { λ r. ⌜ coded r ≡ firstRefusal (stateTests pagesPerFile (now (sizes .entry)) cache file in_range) (done 0) ⌝ }
+// BOOKS, DOWN, NO FILE and RANGE: their other tests.
+pub fn admit_state(sizes: &[u32], cache: CacheState, file: usize, range: bool) -> Answer
+    ensures { λ r. ⌜ coded r ≡ firstRefusal (stateTests pagesPerFile (now (sizes .entry)) cache file range) (done 0) ⌝ }
 {
     if is_sound(sizes, cache, media::PAGES_PER_FILE) {
-        return admit_mounted(cache, file, in_range);
+        return admit_mounted(cache, file, range);
     }
     Answer::Refused(Refusal::Books)
 }
 
 // DOWN, NO FILE and RANGE.
-fn admit_mounted(cache: CacheState, file: usize, in_range: bool) -> Answer
-    ensures { λ r. ⌜ coded r ≡ firstRefusal (mountedTests (cache .mounted) file in_range) (done 0) ⌝ }
+fn admit_mounted(cache: CacheState, file: usize, range: bool) -> Answer
+    ensures { λ r. ⌜ coded r ≡ firstRefusal (mountedTests (cache .mounted) file range) (done 0) ⌝ }
 {
     let mounted = cache.mounted;
     if mounted != 1 {
@@ -401,7 +401,7 @@ fn admit_mounted(cache: CacheState, file: usize, in_range: bool) -> Answer
     if media::FILES <= file {
         return Answer::Refused(Refusal::NoFile);
     }
-    if in_range {
+    if range {
         return Answer::Done(0);
     }
     Answer::Refused(Refusal::Range)
@@ -414,13 +414,13 @@ pub fn admit(
     frames: &[u8],
     cache: CacheState,
     file: usize,
-    in_range: bool,
+    range: bool,
 ) -> Answer
-    ensures { λ r. ⌜ coded r ≡ firstRefusal (fileTests pagesPerFile (deviceOf (mediaOf (now (media .entry)) (now (sizes .entry))) (now (frames .entry)) cache) file in_range) (done 0) ⌝ }
+    ensures { λ r. ⌜ coded r ≡ firstRefusal (fileTests pagesPerFile (deviceOf (mediaOf (now (media .entry)) (now (sizes .entry))) (now (frames .entry)) cache) file range) (done 0) ⌝ }
 {
     let admission = admit_device(media, sizes, frames);
     match admission {
         Answer::Refused(refusal) => Answer::Refused(refusal),
-        Answer::Done(_) => admit_state(sizes, cache, file, in_range),
+        Answer::Done(_) => admit_state(sizes, cache, file, range),
     }
 }

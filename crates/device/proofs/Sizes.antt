@@ -1,10 +1,15 @@
 -- Laws of the three sizes of a file and of the truncate rule on them.
-use mathlib.Core.Path.{_≡_}
+use mathlib.Core.Path.{_≡_, refl, sym, ap}
+use mathlib.Core.Bool.{true, false}
 use Prim.Native.Nat.{ℕ, _≤_, _<_}
 use native.Mathlib.Omega.{arith}
 use borrow.Author.Tests.{leb-true, le-leb, lt-leb}
-use mathlib.Core.Bool.{true, false}
-use Rattle.answer.specs.Coded.{done, BOOKS, RANGE}
+use Rattle.answer.specs.Coded.{Coded, coded, done, BOOKS, RANGE}
+use Rattle.answer.proofs.Coded.{coded-of}
+use Rattle.answer.proofs.Admission.{if-refused, holds-at}
+use Rattle.answer.specs.declared.Refusal.{Refusal}
+use Rattle.answer.specs.declared.Answer.{Answer}
+use Rattle.answer.specs.declared.Answer.the-variants.{Done, Refused}
 use Rattle.device.specs.declared.FileSizes.{FileSizes}
 use Rattle.device.specs.Sizes.{orderTests, inOrder, truncatedSizes, sizesTests, sizesAnswer, sizesAfter}
 use Rattle.device.proofs.Scan.{allOf-at}
@@ -39,3 +44,18 @@ module _ (greatest : ℕ) where
     pub sizes-done : inOrder greatest s ≡ true → n ≤ greatest → (sizesAnswer greatest n s ≡ done 0) × (sizesAfter greatest n s ≡ truncatedSizes n s)
     unfolding sizesTests sizesAnswer sizesAfter
     sizes-done e h = (rw (e, le-leb n greatest h), rw (e, le-leb n greatest h))
+
+-- what an answer of the code to the rule shows
+module _ (greatest n : ℕ) (s : FileSizes) (a : Answer) (e : coded a ≡ sizesAnswer greatest n s) where
+  pub rule-refused : (x : Refusal) → a ≡ Refused x → s ≡ sizesAfter greatest n s
+  unfolding sizesAfter
+  rule-refused x q = sym (if-refused (sizesAnswer greatest n s) x (truncatedSizes n s) s (coded-of a (Refused x) _ q e))
+
+  module _ (k : ℕ) (q : a ≡ Done k) where
+    pub rule-fits : n ≤ greatest
+    unfolding sizesTests sizesAnswer
+    rule-fits = leb-true _ _ (holds-at (sizesTests greatest n s) (done 0) refl (ap (λ (c : Coded). c .number) (sym (coded-of a (Done k) _ q e))) 1)
+
+    pub rule-done : truncatedSizes n s ≡ sizesAfter greatest n s
+    unfolding sizesAfter
+    rule-done = rw (← (coded-of a (Done k) _ q e))

@@ -90,7 +90,8 @@ fn read_pages(
     }
 }
 
-// Read: copies as many bytes as the buffer takes, up to the logical size.
+// Read: copies as many current bytes as the buffer takes, up to the logical size, and answers their number. The rest of the
+// buffer keeps its bytes.
 pub fn read(
     media: &[u8],
     sizes: &[u32],
@@ -137,7 +138,9 @@ fn to_page_end(position: usize, limit: usize) -> usize
     )
 }
 
-// Look: a part of the page frames or of the media.
+// Look: a part of the page frames, or of the media where the page is not cached, and never a copy. It goes from the position to
+// the end of its page, and no further than the logical size, or than the floor where the page is not cached. It is empty on a
+// refusal, at or past the logical size, and in zeros that no buffer has: `look_count` tells which.
 pub fn look<'a>(
     media: &'a [u8],
     sizes: &[u32],
@@ -168,7 +171,8 @@ pub fn look<'a>(
     }
 }
 
-// The count of a look: from the position to the end of its page or to the logical size, the nearer.
+// The answer of a look: its refusal, or as count the bytes from the position to the end of its page or to the logical size, the
+// nearer. Where the part that `look` shows is shorter, the rest of them are zeros.
 pub fn look_count(
     media: &[u8],
     sizes: &[u32],

@@ -1,6 +1,7 @@
 // The calls that write to the media: sync, mount and format.
 //
-// Each carries out a plan of media writes, as many as the budget pays for, and counts all that the plan has.
+// Each carries out a plan of media writes. Where the budget pays for all of them, it is done with their number as count. Where it
+// does not, as many first writes are done as it pays for, the answer is CUT, and the state that comes back is down.
 use answer::Answer;
 use answer::Refusal;
 use device::CacheState;
@@ -190,7 +191,7 @@ fn synced_state(cache: CacheState, file: usize) -> CacheState
     next
 }
 
-// Sync: the writes of the plan, as many as the budget pays for.
+// Sync: stores a file. Its TRIM, its cached pages and its SIZE go to the media; after it its pages are free.
 pub fn sync(
     media: &mut [u8],
     sizes: &mut [u32],
@@ -296,7 +297,8 @@ fn sizes_array(sizes: &[u32]) -> [u32; media::FILES]
     found
 }
 
-// Mount: the TRIMs of the plan, as many as the budget pays for.
+// Mount: brings the device up, with no page cached and the stored sizes. Bytes past a stored size are cleared first, by TRIM.
+// The state that comes in is not looked at.
 pub fn mount(media: &mut [u8], sizes: &mut [u32], cache: CacheState, budget: usize) -> Outcome
     ensures { λ r. ⌜ ((frames : List ℕ) → give (coded (r .answer)) (deviceOf (mediaOf (now (media .exit)) (now (sizes .exit))) frames (r .cache))
         ≡ mount pagesPerFile budget (deviceOf (mediaOf (now (media .entry)) (now (sizes .entry))) frames cache)) ⌝ }
@@ -327,10 +329,10 @@ fn needs_format(media: &[u8], sizes: &[u32], file: usize) -> bool
     ensures { λ r. ⌜ r ≡ nonzeroFrom pagesPerFile (mediaOf (now (media .entry)) (now (sizes .entry))) file 0
         || not (eqb (sizeAt (mediaOf (now (media .entry)) (now (sizes .entry))) file) 0) ⌝ }
 {
-    if nonzero_from(media, file, 0) {
+    if sizes[file] != 0 {
         return true;
     }
-    sizes[file] != 0
+    nonzero_from(media, file, 0)
 }
 
 // The TRIMs of a format, as many as the budget pays for. The number needed comes back.
@@ -349,7 +351,7 @@ fn format_files(media: &mut [u8], sizes: &mut [u32], budget: usize) -> usize
     needed
 }
 
-// Format: the TRIMs of the plan, as many as the budget pays for. The device is down after it.
+// Format: empties all files, by TRIM to 0. The device is down after it, done or cut. The state that comes in is not looked at.
 pub fn format(media: &mut [u8], sizes: &mut [u32], cache: CacheState, budget: usize) -> Outcome
     ensures { λ r. ⌜ ((frames : List ℕ) → give (coded (r .answer)) (deviceOf (mediaOf (now (media .exit)) (now (sizes .exit))) frames (r .cache))
         ≡ format pagesPerFile budget (deviceOf (mediaOf (now (media .entry)) (now (sizes .entry))) frames cache)) ⌝ }

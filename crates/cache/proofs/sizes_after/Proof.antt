@@ -1,48 +1,40 @@
--- `cache::sizes_after` meets its contract: the tests in the order of the definition.
-use mathlib.Core.Path.{sym, _∙_}
-use Prim.Native.Nat.{_<_, _≤_}
+-- `cache::sizes_after` meets its contract: what `sizes_answer` answers decides.
+use mathlib.Core.Path.{_∙_}
 use native.Mathlib.Omega.{arith}
-use borrow.Author.Tests.{le-leb, lt-leb}
 use borrow.Author.Needs.{needs}
-use Rattle.device.specs.Sizes.{sizesTests, sizesAnswer, sizesAfter}
+use Rattle.device.proofs.Sizes.{rule-refused, rule-fits, rule-done}
 use Rattle.cache.proofs.sizes_after.Statement.{statement}
 use Rattle.cache.proofs.sizes_after.Tie as tie
 
--- what the second test shows
-past : (c : tie.Else2) → c .before .before .before .args .greatest < c .before .before .before .args .n
-past c = omega arith
+sizes-answer-requires : tie.Need-sizes-answer-requires
+sizes-answer-requires c κs = search needs
 
-in-order-requires : tie.Need-in-order-requires
-in-order-requires c κs = search needs
+enum-told : tie.Need-enum-told
+enum-told c = search needs
+
+enum-told-2 : tie.Need-enum-told-2
+enum-told-2 c = search needs
 
 cast-truncated-sizes : tie.Need-cast-truncated-sizes
-cast-truncated-sizes c = search needs
+cast-truncated-sizes c = omega (arith, rule-fits _ _ _ _ (c .before .before .sizes-answer .ensures) _ (c .enum-told2 .given .1))
 
 truncated-sizes-requires : tie.Need-truncated-sizes-requires
 truncated-sizes-requires c κs = search needs
 
 returns : tie.Need-returns
-unfolding sizesTests sizesAnswer sizesAfter
-returns c =
-    let b = c .before .before .before in
-    let h : b .before .args .n ≤ b .before .args .greatest = omega arith in
-    rw (sym (b .in-order .ensures) ∙ c .before .before .if1 .taken, le-leb _ _ h) (c .truncated-sizes .ensures)
+returns c = rule-refused _ _ _ _ (c .before .before .sizes-answer .ensures) _ (c .enum-told .given .1)
 
 returns-2 : tie.Need-returns-2
-unfolding sizesTests sizesAnswer sizesAfter
-returns-2 c = rw (sym (c .before .before .in-order .ensures) ∙ c .before .if1 .taken, lt-leb _ _ (past c))
-
-returns-3 : tie.Need-returns-3
-unfolding sizesTests sizesAnswer sizesAfter
-returns-3 c = rw (sym (c .before .in-order .ensures) ∙ c .if1 .left)
+returns-2 c = let t = c .before in c .truncated-sizes .ensures ∙ rule-done _ _ _ _ (t .before .before .sizes-answer .ensures) _ (t .enum-told2 .given .1)
 
 pub sizes-after-spec : {M : Type 1} → statement M
 sizes-after-spec =
     tie.close
     (tie.spec
-    in-order-requires
+    sizes-answer-requires
+    enum-told
+    enum-told-2
     cast-truncated-sizes
     truncated-sizes-requires
     returns
-    returns-2
-    returns-3)
+    returns-2)

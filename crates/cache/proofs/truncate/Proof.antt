@@ -22,8 +22,8 @@ ready c = file-ready pagesPerFile (device (c .before .before .before .before .be
 in-limits : (c : tie.After-enum-told) → c .before .before .before .before .before .before .before .args .n ≤ fileBytes pagesPerFile
 in-limits c = leb-true _ _ (ready c .in-range)
 
-mul-file-len : tie.Need-mul-file-len
-mul-file-len c = search needs
+mul-greatest : tie.Need-mul-greatest
+mul-greatest c = search needs
 
 admit-requires : tie.Need-admit-requires
 admit-requires c κs = search needs
@@ -65,7 +65,7 @@ pub truncate-spec : {M : Type 1} → statement M
 truncate-spec =
     tie.close
     (tie.spec
-    mul-file-len
+    mul-greatest
     admit-requires
     enum-known-admission
     enum-told

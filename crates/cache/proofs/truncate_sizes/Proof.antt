@@ -1,6 +1,6 @@
--- `cache::truncate_sizes` meets its contract, by a walk of its MIR: the borrow is opened, the record is copied out, `sizes_after` is called on the copy, its result is
--- stored over the record, the borrow is closed there, and `sizes_answer` is called on the copy. All that the proof knows of the
--- two is that each meets its contract.
+-- `cache::truncate_sizes` meets its contract, by a walk of its MIR: the borrow is opened, the record is copied out, `sizes_after`
+-- is called on the copy, its result is stored over the record, the borrow is closed there, and `sizes_answer` is called on the
+-- copy. All that the proof knows of the two is that each meets its contract.
 use mathlib.Core.Path.{_≡_, refl}
 use mathlib.Core.List.{[], _∷_, List}
 use Prim.Native.Nat.{ℕ, _<_, _^_}

@@ -15,7 +15,7 @@ abbrev first : tie.After-admit-device → List Test
 first c = let a = c .before .before .before .before .args in deviceTests pagesPerFile (mediaOf (a .media .now) (a .sizes .now)) (a .frames .now)
 
 abbrev rest : tie.After-admit-device → List Test
-rest c = let a = c .before .before .before .before .args in stateTests pagesPerFile (a .sizes .now) (a .cache) (a .file) (a .in-range)
+rest c = let a = c .before .before .before .before .args in stateTests pagesPerFile (a .sizes .now) (a .cache) (a .file) (a .range)
 
 admit-device-requires : tie.Need-admit-device-requires
 admit-device-requires c κs = search needs

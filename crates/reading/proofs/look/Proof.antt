@@ -78,8 +78,7 @@ returns c =
     let m = c .before .before .before .before in
     let from : ℕ = frameStart (m .slot-of .result) + s .args .position % pageBytes in
     let q : from + e .to-page-end .result - from ≡ e .to-page-end .result = omega arith in
-    let h = file-passed pagesPerFile (device s) _ _ (t .before .before .admit-at .result) (t .before .before .admit-at .ensures) _ (t .enum-told2 .given .1) in
-    (
+    let h = file-passed pagesPerFile (device s) _ _ (t .before .before .admit-at .result) (t .before .before .admit-at .ensures) _ (t .enum-told2 .given .1) in (
       ap (λ (n : ℕ). part (s .args .frames .now) from n) q ∙ look-cached pagesPerFile (s .args .file) (s .args .position) (device s) h _ (m .slot-of .ensures) _ (omega arith) (e .to-page-end .ensures),
       place-cached pagesPerFile (s .args .file) (s .args .position) (s .args .media .ptr) (s .args .frames .ptr) (device s) h _ (m .slot-of .ensures) (omega arith),
     )
@@ -125,8 +124,7 @@ returns-2 c =
     let b = c .before .before .before in
     let s = b .before .before .before .before in
     let x = c .before .enum-told .given .0 .0 in
-    let e = file-refused pagesPerFile (device s) _ _ (b .admit-at .result) (b .admit-at .ensures) x (c .before .enum-told .given .1) in
-    (
+    let e = file-refused pagesPerFile (device s) _ _ (b .admit-at .result) (b .admit-at .ensures) x (c .before .enum-told .given .1) in (
       look-refused pagesPerFile (s .args .file) (s .args .position) (device s) x e,
       place-refused pagesPerFile (s .args .file) (s .args .position) (s .args .media .ptr) (s .args .frames .ptr) (device s) x e,
     )
@@ -140,8 +138,7 @@ returns-3 c =
     let m = c .before .before .before .before in
     let from : ℕ = fileStart pagesPerFile (s .args .file) + s .args .position in
     let q : from + e .to-page-end2 .result - from ≡ e .to-page-end2 .result = omega arith in
-    let h = file-passed pagesPerFile (device s) _ _ (t .before .before .admit-at .result) (t .before .before .admit-at .ensures) _ (t .enum-told2 .given .1) in
-    (
+    let h = file-passed pagesPerFile (device s) _ _ (t .before .before .admit-at .result) (t .before .before .admit-at .ensures) _ (t .enum-told2 .given .1) in (
       ap (λ (n : ℕ). part (s .args .media .now) from n) q ∙ look-media pagesPerFile (s .args .file) (s .args .position) (device s) h _ (m .slot-of .ensures) _ (omega arith) (e .to-page-end2 .ensures),
       place-media pagesPerFile (s .args .file) (s .args .position) (s .args .media .ptr) (s .args .frames .ptr) (device s) h _ (m .slot-of .ensures) (omega arith),
     )

@@ -1,6 +1,5 @@
 -- `reading::read_page` meets its contract: the page is in a frame, or on the media with zeros after the floor.
 use mathlib.Core.Path.{_≡_, _∙_, ap}
-use mathlib.Core.List.{List}
 use Prim.Native.Nat.{ℕ, _+_, _-_, _%_, _≤_, min}
 use native.Mathlib.Omega.{arith}
 use lib.ListN.{length, getD}

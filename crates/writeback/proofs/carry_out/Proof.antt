@@ -1,4 +1,4 @@
--- In each arm the write that was found is within the limits, so the media does it; `Spent` has a law for each end.
+-- `writeback::carry_out` meets its contract: in each arm the write that was found is within the limits, so the media does it; `Spent` has a law for each end.
 use mathlib.Core.Path.{_≡_, refl, sym, ap, _∙_}
 use mathlib.Core.List.{List}
 use mathlib.Core.Bool.{true}

@@ -1,4 +1,4 @@
--- The flag says whether all bytes before i are 0.
+-- `writeback::is_zero` meets its contract: the flag says whether all bytes before i are 0.
 use borrow.Author.Needs.{needs}
 use mathlib.Core.Logic.{⊎-elim}
 use Prim.Native.Nat.{_≤_, _-_}

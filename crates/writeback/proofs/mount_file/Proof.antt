@@ -1,4 +1,4 @@
--- What was found of the file decides on its TRIM.
+-- `writeback::mount_file` meets its contract: what was found of the file decides on its TRIM.
 use borrow.Author.Needs.{needs}
 use Rattle.writeback.proofs.mount_file.Statement.{statement}
 use Rattle.writeback.proofs.mount_file.Tie as tie

@@ -1,4 +1,4 @@
--- The files below f were looked at; those from f on are still as the mount found them.
+-- `writeback::mount_files` meets its contract: the files below f were looked at; those from f on are still as the mount found them.
 use borrow.Author.Needs.{needs}
 use mathlib.Core.Path.{_≡_}
 use Prim.Native.Nat.{ℕ, _-_, _≤_, _<_}

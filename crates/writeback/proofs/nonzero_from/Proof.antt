@@ -1,4 +1,4 @@
--- From n to the end of the file lie as many bytes as the definition looks at.
+-- `writeback::nonzero_from` meets its contract: from n to the end of the file lie as many bytes as the definition looks at.
 use mathlib.Core.Path.{_≡_, _∙_, ap}
 use mathlib.Core.Bool.{not}
 use Prim.Native.Nat.{ℕ, _+_, _-_}

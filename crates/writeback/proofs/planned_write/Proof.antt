@@ -1,4 +1,4 @@
--- Each place has the write that the plan has there, and the sizes of a sound state keep it within the limits.
+-- `writeback::planned_write` meets its contract: each place has the write that the plan has there, and the sizes of a sound state keep it within the limits.
 use mathlib.Core.Path.{sym, _∙_}
 use mathlib.Core.List.{List, []}
 use Prim.Native.Nat.{ℕ, _-_}

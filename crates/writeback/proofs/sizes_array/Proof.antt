@@ -1,4 +1,4 @@
--- The first i sizes are copied.
+-- `writeback::sizes_array` meets its contract: the first i sizes are copied.
 use borrow.Author.Needs.{needs}
 use mathlib.Core.Path.{_≡_, refl, _∙_, ap}
 use mathlib.Core.List.{List, _++_}

@@ -1,4 +1,4 @@
--- The places below `place` are carried out, and the places joined are the plan.
+-- `writeback::sync_writes` meets its contract: the places below `place` are carried out, and the places joined are the plan.
 use mathlib.Core.Path.{_≡_}
 use Prim.Native.Nat.{_+_, _-_, _≤_}
 use native.Mathlib.Omega.{arith}

@@ -1,4 +1,4 @@
--- From 0 on are all pages of the file.
+-- `writeback::synced_state` meets its contract: from 0 on are all pages of the file.
 use mathlib.Core.Path.{ap}
 use mathlib.Core.List.{List}
 use lib.ListN.{getD}

@@ -1,4 +1,4 @@
--- A TRIM within the limits is done as the plan says; `Spent` has a law for each end.
+-- `writeback::trim_if` meets its contract: a TRIM within the limits is done as the plan says; `Spent` has a law for each end.
 use mathlib.Core.Path.{sym, _∙_}
 use native.Mathlib.Omega.{arith}
 use Rattle.media.specs.Geometry.{pagesPerFile}

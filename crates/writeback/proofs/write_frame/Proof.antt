@@ -1,4 +1,4 @@
--- The page that was borrowed from the media lies within it, so PAGE replaces it in place.
+-- `writeback::write_frame` meets its contract: the page that was borrowed from the media lies within it, so PAGE replaces it in place.
 use mathlib.Core.Path.{_≡_, _∙_, ap}
 use mathlib.Core.List.{List}
 use Prim.Native.Nat.{ℕ, _+_, _-_, _≤_}
