@@ -88,7 +88,7 @@ refusing-rest true x e = absurd (false≢true e)
 refusing-rest false x e = e
 
 -- where the answer is done, every test held
-pub done-passed : (ts : List Test) (a : Coded) → refusing ts ≡ true → (firstRefusal ts a) .number ≡ 0 → passed ts ≡ true
+done-passed : (ts : List Test) (a : Coded) → refusing ts ≡ true → (firstRefusal ts a) .number ≡ 0 → passed ts ≡ true
 done-passed [] a h e = refl
 done-passed (t ∷ ts) a h e =
     cases (t .holds)
@@ -108,10 +108,14 @@ first-refused [] us a b r h e = absurd (false≢true (sym (refusal-number r) ∙
 first-refused (t ∷ ts) us a b r h e =
     cases (t .holds) (λ q. rw q (first-refused ts us a b r h (rw q at e))) (λ q. rw q (rw q at e))
 
--- the answer of code that has made the first tests: a refusal stands, and where it is done the rest decides
+-- the answer of code that has made the tests: done, they all held
+pub answer-passed : (ts : List Test) (a : Answer) (n : ℕ) → refusing ts ≡ true → coded a ≡ firstRefusal ts (done 0) → a ≡ Done n → passed ts ≡ true
+answer-passed ts a n h e q = done-passed ts (done 0) h (ap (λ (c : Coded). c .number) (sym (coded-of a (Done n) _ q e)))
+
+-- of code that has made the first tests: a refusal stands, and where it is done the rest decides
 module _ (ts us : List Test) (a : Answer) (e : coded a ≡ firstRefusal ts (done 0)) where
   pub then-refused : (r : Refusal) → a ≡ Refused r → codedRefusal r ≡ firstRefusal (ts ++ us) (done 0)
   then-refused r q = first-refused ts us (done 0) (done 0) r refl (coded-of a (Refused r) _ q e)
 
   pub then-rest : refusing ts ≡ true → (n : ℕ) → a ≡ Done n → firstRefusal us (done 0) ≡ firstRefusal (ts ++ us) (done 0)
-  then-rest h n q = sym (first-passed ts us (done 0) (done 0) h (ap (λ (c : Coded). c .number) (sym (coded-of a (Done n) _ q e))))
+  then-rest h n q = sym (first-join ts us (done 0) ∙ first-all ts (firstRefusal us (done 0)) (answer-passed ts a n h e q))

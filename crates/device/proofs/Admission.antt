@@ -10,7 +10,7 @@ use lib.ListN.{length, getD}
 use borrow.Author.Tests.{ne-eqb, eqb-true, ltb-true, leb-true, eq-eqb, lt-ltb, le-leb}
 use borrow.Table.Steps.{cases}
 use Rattle.answer.specs.Coded.{refused, LINE, SHAPE, MEDIA, BOOKS, DOWN, NO-FILE, RANGE, Coded, done, codedRefusal, coded}
-use Rattle.answer.proofs.Admission.{passed, passed-at, Changeless, done-passed}
+use Rattle.answer.proofs.Admission.{passed, passed-at, Changeless, answer-passed}
 use Rattle.answer.specs.Admission.{Test, test, firstRefusal}
 use Rattle.answer.proofs.Coded.{refusal-number, coded-of}
 use Rattle.answer.specs.declared.Refusal.{Refusal}
@@ -154,7 +154,7 @@ module _ (P : ℕ) (d : Device) where
 module _ (P : ℕ) (d : Device) (f : ℕ) (range : Bool) (a : Answer) (e : coded a ≡ firstRefusal (fileTests P d f range) (done 0)) where
   pub file-passed : (k : ℕ) → a ≡ Done k → passed (fileTests P d f range) ≡ true
   unfolding mediaShape framesShape sizesFit stateTests
-  file-passed k q = done-passed (fileTests P d f range) (done 0) refl (ap (λ (c : Coded). c .number) (sym (coded-of a (Done k) _ q e)))
+  file-passed k q = answer-passed (fileTests P d f range) a k refl e q
 
   pub file-refused : (x : Refusal) → a ≡ Refused x → codedRefusal x ≡ firstRefusal (fileTests P d f range) (done 0)
   file-refused x q = coded-of a (Refused x) _ q e
@@ -167,11 +167,11 @@ module _ (P : ℕ) (d : Device) (f : ℕ) (range : Bool) (a : Answer) (e : coded
 module _ (P : ℕ) (m : Media) (a : Answer) where
   pub mount-passed : coded a ≡ firstRefusal (mountTests P m) (done 0) → (k : ℕ) → a ≡ Done k → passed (mountTests P m) ≡ true
   unfolding mediaShape sizesFit
-  mount-passed e k q = done-passed (mountTests P m) (done 0) refl (ap (λ (c : Coded). c .number) (sym (coded-of a (Done k) _ q e)))
+  mount-passed e k q = answer-passed (mountTests P m) a k refl e q
 
   pub shape-passed : coded a ≡ firstRefusal (mediaShape P m) (done 0) → (k : ℕ) → a ≡ Done k → passed (mediaShape P m) ≡ true
   unfolding mediaShape
-  shape-passed e k q = done-passed (mediaShape P m) (done 0) refl (ap (λ (c : Coded). c .number) (sym (coded-of a (Done k) _ q e)))
+  shape-passed e k q = answer-passed (mediaShape P m) a k refl e q
 
 -- the page frames: SHAPE whatever the media is; or else the tests of a mount decide
 module _ (P : ℕ) (m : Media) (frames : List ℕ) where

@@ -116,17 +116,3 @@ map-more {A} g i xs d h = rw add-one (go i xs h)
 
 pub map-done : {A : Type 0} (g : A → A) (i : ℕ) (xs : List A) → length xs ≤ i → map g (take i xs) ++ drop i xs ≡ map g xs
 map-done g i xs h = rw (take-all i xs h, drop-of-length-le xs h, append-nil)
-
--- ---- a list copied
-
-pub copy-more : (i : ℕ) (xs ys : List ℕ) → i < length xs → length ys ≡ length xs → set (take i xs ++ drop i ys) i (getD xs i 0) ≡ take (i + 1) xs ++ drop (i + 1) ys
-copy-more i xs ys h e = rw add-one (go i xs ys h e)
-  where
-    go : (i : ℕ) (xs ys : List ℕ) → i < length xs → length ys ≡ length xs → set (take i xs ++ drop i ys) i (getD xs i 0) ≡ take (suc i) xs ++ drop (suc i) ys
-    go i [] ys h e = absurd (not-suc-le-zero h)
-    go i (x ∷ xs) [] h e = absurd (omega arith)
-    go zero (x ∷ xs) (y ∷ ys) h e = refl
-    go (suc i) (x ∷ xs) (y ∷ ys) h e = ap (λ (l : List ℕ). x ∷ l) (go i xs ys (le-of-suc-le-suc h) (omega arith))
-
-pub copy-done : (i : ℕ) (xs ys : List ℕ) → length xs ≤ i → length ys ≤ i → take i xs ++ drop i ys ≡ xs
-copy-done i xs ys h k = rw (take-all i xs h, drop-of-length-le ys k, append-nil)

@@ -1,12 +1,12 @@
 -- Laws of the three sizes of a file and of the truncate rule on them.
-use mathlib.Core.Path.{_≡_, refl, sym, ap}
+use mathlib.Core.Path.{_≡_, refl, sym}
 use mathlib.Core.Bool.{true, false}
 use Prim.Native.Nat.{ℕ, _≤_, _<_}
 use native.Mathlib.Omega.{arith}
 use borrow.Author.Tests.{leb-true, le-leb, lt-leb}
-use Rattle.answer.specs.Coded.{Coded, coded, done, BOOKS, RANGE}
+use Rattle.answer.specs.Coded.{coded, done, BOOKS, RANGE}
 use Rattle.answer.proofs.Coded.{coded-of}
-use Rattle.answer.proofs.Admission.{if-refused, holds-at}
+use Rattle.answer.proofs.Admission.{if-refused, passed-at, answer-passed}
 use Rattle.answer.specs.declared.Refusal.{Refusal}
 use Rattle.answer.specs.declared.Answer.{Answer}
 use Rattle.answer.specs.declared.Answer.the-variants.{Done, Refused}
@@ -54,7 +54,7 @@ module _ (greatest n : ℕ) (s : FileSizes) (a : Answer) (e : coded a ≡ sizesA
   module _ (k : ℕ) (q : a ≡ Done k) where
     pub rule-fits : n ≤ greatest
     unfolding sizesTests sizesAnswer
-    rule-fits = leb-true _ _ (holds-at (sizesTests greatest n s) (done 0) refl (ap (λ (c : Coded). c .number) (sym (coded-of a (Done k) _ q e))) 1)
+    rule-fits = leb-true _ _ (passed-at (sizesTests greatest n s) (answer-passed (sizesTests greatest n s) a k refl e q) 1)
 
     pub rule-done : truncatedSizes n s ≡ sizesAfter greatest n s
     unfolding sizesAfter

@@ -3,13 +3,13 @@ use mathlib.Core.Path.{_≡_, refl, sym, ap, _∙_}
 use mathlib.Core.List.{List}
 use mathlib.Core.Bool.{true}
 use native.Mathlib.Omega.{arith}
+use borrow.Author.Needs.{needs}
 use Rattle.media.specs.Geometry.{pagesPerFile}
 use Rattle.media.specs.Write.{Media, MediaWrite, mediaOf}
 use Rattle.media.proofs.Direct.{size-applied}
 use Rattle.device.proofs.Plan.{write-needed, spent-paid, spent-unpaid, spent-none}
 use Rattle.writeback.specs.declared.PlannedWrite.{PlannedWrite}
 use Rattle.writeback.specs.Planned.{plannedWrites, Allowed}
-use borrow.Author.Needs.{needs}
 use Rattle.writeback.proofs.carry_out.Statement.{statement}
 use Rattle.writeback.proofs.carry_out.Tie as tie
 

@@ -4,6 +4,7 @@ use mathlib.Core.Bool.{true}
 use mathlib.Core.List.{List, []}
 use Prim.Native.Nat.{ℕ}
 use native.Mathlib.Omega.{arith}
+use borrow.Author.Needs.{needs}
 use Rattle.answer.proofs.Admission.{passed}
 use Rattle.media.specs.Geometry.{pagesPerFile}
 use Rattle.media.specs.Write.{Media, mediaOf}
@@ -11,7 +12,6 @@ use Rattle.device.specs.Device.{Device, deviceOf}
 use Rattle.device.specs.Admission.{mediaShape}
 use Rattle.device.proofs.Admission.{shape-admitted, shape-passed}
 use Rattle.device.proofs.Mounting.{format-refused, format-cuts, format-ends}
-use borrow.Author.Needs.{needs}
 use Rattle.writeback.proofs.format.Statement.{statement}
 use Rattle.writeback.proofs.format.Tie as tie
 

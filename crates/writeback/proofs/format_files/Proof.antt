@@ -1,9 +1,9 @@
 -- `writeback::format_files` meets its contract: the files below f were looked at; those from f on are still as the format found them.
-use borrow.Author.Needs.{needs}
 use mathlib.Core.Path.{_≡_}
 use Prim.Native.Nat.{_-_, _≤_}
 use native.Mathlib.Omega.{arith}
 use lib.ListN.{length}
+use borrow.Author.Needs.{needs}
 use Rattle.media.specs.Geometry.{pagesPerFile, files}
 use Rattle.media.specs.Write.{mediaOf}
 use Rattle.writeback.proofs.Trimming.{Formatting, trimming-none, formatting-next, formatting-all}

@@ -1,10 +1,10 @@
 -- `writeback::is_zero` meets its contract: the flag says whether all bytes before i are 0.
-use borrow.Author.Needs.{needs}
 use mathlib.Core.Logic.{⊎-elim}
 use Prim.Native.Nat.{_≤_, _-_}
 use native.Mathlib.Omega.{arith}
 use lib.ListN.{length}
 use lib.Dec.{eqb}
+use borrow.Author.Needs.{needs}
 use borrow.Author.Tests.{eq-eqb, ne-eqb}
 use Rattle.device.proofs.Loops.{Flagged, flagged-none, flagged-fails, flagged-next, flagged-end}
 use Rattle.writeback.proofs.is_zero.Statement.{statement}

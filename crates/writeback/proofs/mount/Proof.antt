@@ -4,6 +4,7 @@ use mathlib.Core.Bool.{true}
 use mathlib.Core.List.{List, []}
 use Prim.Native.Nat.{ℕ}
 use native.Mathlib.Omega.{arith}
+use borrow.Author.Needs.{needs}
 use Rattle.answer.proofs.Admission.{passed}
 use Rattle.media.specs.Geometry.{pagesPerFile}
 use Rattle.media.specs.Write.{Media, mediaOf}
@@ -11,7 +12,6 @@ use Rattle.device.specs.Device.{Device, deviceOf}
 use Rattle.device.specs.Admission.{mountTests}
 use Rattle.device.proofs.Admission.{Mountable, mount-admitted, mount-passed}
 use Rattle.device.proofs.Mounting.{mount-refused, mount-cuts, mount-ends}
-use borrow.Author.Needs.{needs}
 use Rattle.writeback.proofs.mount.Statement.{statement}
 use Rattle.writeback.proofs.mount.Tie as tie
 

@@ -1,9 +1,9 @@
 -- `writeback::mount_files` meets its contract: the files below f were looked at; those from f on are still as the mount found them.
-use borrow.Author.Needs.{needs}
 use mathlib.Core.Path.{_≡_}
 use Prim.Native.Nat.{ℕ, _-_, _≤_, _<_}
 use native.Mathlib.Omega.{arith}
 use lib.ListN.{length, getD}
+use borrow.Author.Needs.{needs}
 use Rattle.media.specs.Geometry.{pagesPerFile, files}
 use Rattle.media.specs.Write.{mediaOf}
 use Rattle.writeback.proofs.Trimming.{Mounting, trimming-none, mounting-next, mounting-all}

@@ -4,11 +4,11 @@ use mathlib.Core.Bool.{not}
 use Prim.Native.Nat.{ℕ, _+_, _-_}
 use native.Mathlib.Omega.{arith}
 use lib.Dec.{eqb}
+use borrow.Author.Needs.{needs}
 use Rattle.memory.specs.Bytes.{part}
 use Rattle.media.specs.Geometry.{pagesPerFile, fileBytes, fileStart}
 use Rattle.device.specs.Scan.{every}
 use Rattle.device.specs.Mounting.{nonzeroFrom}
-use borrow.Author.Needs.{needs}
 use Rattle.writeback.proofs.nonzero_from.Statement.{statement}
 use Rattle.writeback.proofs.nonzero_from.Tie as tie
 

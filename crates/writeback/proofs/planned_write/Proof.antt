@@ -3,11 +3,11 @@ use mathlib.Core.Path.{sym, _∙_}
 use mathlib.Core.List.{List, []}
 use Prim.Native.Nat.{ℕ, _-_}
 use native.Mathlib.Omega.{arith}
+use borrow.Author.Needs.{needs}
 use Rattle.media.specs.Write.{mediaOf}
 use Rattle.device.specs.Device.{Device, deviceOf}
 use Rattle.device.proofs.Syncing.{trim-needed, trim-unneeded, page-needed, page-unneeded, size-needed, size-unneeded}
 use Rattle.writeback.proofs.Places.{place-trim, place-page, place-size}
-use borrow.Author.Needs.{needs}
 use Rattle.writeback.proofs.planned_write.Statement.{statement}
 use Rattle.writeback.proofs.planned_write.Tie as tie
 

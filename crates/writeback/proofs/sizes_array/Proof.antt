@@ -1,23 +1,24 @@
 -- `writeback::sizes_array` meets its contract: the first i sizes are copied.
-use borrow.Author.Needs.{needs}
-use mathlib.Core.Path.{_≡_, refl, _∙_, ap}
-use mathlib.Core.List.{List, _++_}
+use mathlib.Core.Path.{_≡_, refl, sym, _∙_, ap}
+use mathlib.Core.List.{List}
 use Prim.Native.Nat.{ℕ, _≤_, _-_}
 use native.Mathlib.Omega.{arith}
-use lib.ListN.{length, take, drop, set, getD}
+use lib.ListN.{length, take, set, getD}
+use borrow.Author.Needs.{needs}
+use Rattle.memory.specs.Bytes.{zeros, overwrite}
+use Rattle.memory.proofs.Bytes.{overwrite-none, overwrite-next, overwrite-fits, overwrite-whole}
 use Rattle.media.specs.Geometry.{files}
-use Rattle.device.proofs.Loops.{copy-more, copy-done}
 use Rattle.writeback.proofs.sizes_array.Statement.{statement}
 use Rattle.writeback.proofs.sizes_array.Tie as tie
 
 abbrev Inv-loop : tie.InvT-loop
-Inv-loop sizes found₀ i₀ found i = (found ≡ take i sizes ++ drop i found₀) × (i ≤ files) × (length found₀ ≡ files)
+Inv-loop sizes found₀ i₀ found i = (found ≡ overwrite found₀ 0 (take i sizes)) × (i ≤ files) × (length found₀ ≡ files)
 
 abbrev μ-loop : tie.MeasureT-loop
 μ-loop sizes found₀ i₀ found i = files - i
 
 loop-holds : tie.Need-loop-holds Inv-loop μ-loop
-loop-holds c = (refl, search needs, search needs)
+loop-holds c = (sym (overwrite-none _ 0), search needs, search needs)
 
 mul-found : tie.Need-mul-found Inv-loop μ-loop
 mul-found c = search needs
@@ -42,13 +43,13 @@ loop-again c =
     let l = c .before .before in
     let a = l .before .args in
     let i : ℕ = l .loop .i in
-    (ap (λ (t : List ℕ). set t i (getD (a .sizes .now) i 0)) (l .loop .inv .0) ∙ copy-more i (a .sizes .now) _ (omega arith) (omega arith), search needs, refl)
+    (ap (λ (t : List ℕ). set t i (getD (a .sizes .now) i 0)) (l .loop .inv .0) ∙ overwrite-next (zeros files) (a .sizes .now) i (omega arith) (omega arith), search needs, refl)
 
 returns : tie.Need-returns Inv-loop μ-loop
 returns c =
     let l = c .before in
     let a = l .before .args in
-    l .loop .inv .0 ∙ copy-done (l .loop .i) (a .sizes .now) _ (omega arith) (omega arith)
+    l .loop .inv .0 ∙ overwrite-fits (zeros files) (a .sizes .now) (l .loop .i) (omega arith) ∙ overwrite-whole (zeros files) (a .sizes .now) (omega arith)
 
 pub sizes-array-spec : {M : Type 1} → statement M
 sizes-array-spec =

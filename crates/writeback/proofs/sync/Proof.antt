@@ -2,6 +2,7 @@
 use mathlib.Core.Path.{_≡_}
 use mathlib.Core.Bool.{true}
 use native.Mathlib.Omega.{arith}
+use borrow.Author.Needs.{needs}
 use Rattle.answer.proofs.Admission.{passed}
 use Rattle.media.specs.Geometry.{pagesPerFile}
 use Rattle.media.specs.Write.{mediaOf}
@@ -10,7 +11,6 @@ use Rattle.device.specs.Admission.{fileTests}
 use Rattle.device.proofs.Sound.{sound-sizes}
 use Rattle.device.proofs.Admission.{Admitted, file-passed, file-refused, file-admitted}
 use Rattle.device.proofs.Syncing.{sync-refused, sync-cuts, sync-ends}
-use borrow.Author.Needs.{needs}
 use Rattle.writeback.proofs.sync.Statement.{statement}
 use Rattle.writeback.proofs.sync.Tie as tie
 

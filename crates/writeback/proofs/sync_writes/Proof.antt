@@ -3,11 +3,11 @@ use mathlib.Core.Path.{_≡_}
 use Prim.Native.Nat.{_+_, _-_, _≤_}
 use native.Mathlib.Omega.{arith}
 use lib.ListN.{length}
+use borrow.Author.Needs.{needs}
 use Rattle.media.specs.Geometry.{pagesPerFile}
 use Rattle.media.specs.Write.{mediaOf}
 use Rattle.device.specs.Device.{deviceOf}
 use Rattle.writeback.proofs.Places.{Carried, carried-none, carried-next, carried-all}
-use borrow.Author.Needs.{needs}
 use Rattle.writeback.proofs.sync_writes.Statement.{statement}
 use Rattle.writeback.proofs.sync_writes.Tie as tie
 

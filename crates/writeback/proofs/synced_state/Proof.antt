@@ -2,11 +2,11 @@
 use mathlib.Core.Path.{ap}
 use mathlib.Core.List.{List}
 use lib.ListN.{getD}
+use borrow.Author.Needs.{needs}
 use Rattle.device.specs.declared.Slot.{Slot}
 use Rattle.device.specs.Device.{withSlots, withFloor}
 use Rattle.device.specs.Syncing.{syncedState}
 use Rattle.device.proofs.Syncing.{free-all}
-use borrow.Author.Needs.{needs}
 use Rattle.writeback.proofs.synced_state.Statement.{statement}
 use Rattle.writeback.proofs.synced_state.Tie as tie
 

@@ -1,12 +1,12 @@
 -- `writeback::trim_if` meets its contract: a TRIM within the limits is done as the plan says; `Spent` has a law for each end.
 use mathlib.Core.Path.{sym, _∙_}
 use native.Mathlib.Omega.{arith}
+use borrow.Author.Needs.{needs}
 use Rattle.media.specs.Geometry.{pagesPerFile}
 use Rattle.media.specs.Write.{Media, mediaOf}
 use Rattle.media.specs.Write.MediaWrite.{trim}
 use Rattle.media.proofs.Direct.{trim-applied}
 use Rattle.device.proofs.Plan.{spent-paid, spent-unpaid, spent-none, write-needed, write-unneeded}
-use borrow.Author.Needs.{needs}
 use Rattle.writeback.proofs.trim_if.Statement.{statement}
 use Rattle.writeback.proofs.trim_if.Tie as tie
 

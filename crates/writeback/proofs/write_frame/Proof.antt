@@ -3,6 +3,7 @@ use mathlib.Core.Path.{_≡_, _∙_, ap}
 use mathlib.Core.List.{List}
 use Prim.Native.Nat.{ℕ, _+_, _-_, _≤_}
 use native.Mathlib.Omega.{arith}
+use borrow.Author.Needs.{needs}
 use Rattle.memory.specs.Bytes.{part, overwrite}
 use Rattle.memory.proofs.Bytes.{length-part, put-back}
 use Rattle.media.specs.Geometry.{pageBytes, fileBytes, mediaBytes, fileStart, pageStart}
@@ -11,7 +12,6 @@ use Rattle.media.specs.Direct.{pageAfter}
 use Rattle.media.proofs.Geometry.{file-end}
 use Rattle.media.proofs.Direct.{page-in-place}
 use Rattle.device.specs.Device.{frameStart}
-use borrow.Author.Needs.{needs}
 use Rattle.writeback.proofs.write_frame.Statement.{statement}
 use Rattle.writeback.proofs.write_frame.Tie as tie
 
