@@ -123,6 +123,7 @@ fn has_slot(cache: CacheState, file: usize, page: usize) -> bool
     cache_state::first_free(cache) < SLOTS
 }
 
+// The state after pages of a write, and how many bytes were put down.
 struct Put {
     cache: CacheState,
     count: usize,

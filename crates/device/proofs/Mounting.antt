@@ -12,13 +12,7 @@ use lib.ListN.{length, getD, take}
 use lib.Seq.{take-nil, take-all, take-length, ext-getD}
 use borrow.Author.Tests.{not-false, eqb-true, eq-eqb, ne-eqb, le-leb, lt-leb}
 use borrow.Table.Steps.{cases}
-use Rattle.answer.specs.Coded.{refused, done, CUT, coded, codedRefusal}
-use Rattle.answer.specs.Admission.{firstRefusal}
-use Rattle.answer.specs.declared.Refusal.{Refusal}
-use Rattle.answer.specs.declared.Answer.{Answer}
-use Rattle.answer.specs.declared.Answer.the-variants.{Refused}
-use Rattle.answer.proofs.Coded.{coded-of}
-use Rattle.answer.proofs.Admission.{passed}
+use Rattle.answer.specs.Coded.{refused, done, CUT}
 use Rattle.memory.specs.Bytes.{part}
 use Rattle.memory.proofs.Cases.{split-eq}
 use Rattle.memory.proofs.Bytes.{length-part, getD-part}
@@ -30,11 +24,11 @@ use Rattle.media.proofs.Write.{bytes-stay, sizes-stay, byte-after-trim, size-af
 use Rattle.device.specs.Device.{Device, deviceOf, downState, mountedState}
 use Rattle.device.specs.Admission.{Result, give, mediaShape, mountTests}
 use Rattle.device.specs.Scan.{every}
-use Rattle.device.specs.Plan.{writeIf, Spent}
+use Rattle.device.specs.Plan.{writeIf}
 use Rattle.device.specs.Mounting.{trimsFrom, nonzeroFrom, mountPlan, mount, formatPlan, format}
 use Rattle.device.proofs.Scan.{or-left, or-right, every-at}
-use Rattle.device.proofs.Admission.{admit-by, admit-refused, admit-passed, Mountable, shape-admitted, shape-changeless, mount-changeless, mount-admitted}
-use Rattle.device.proofs.Plan.{budget-by, all-join, all-if, spent-cut, spent-done}
+use Rattle.device.proofs.Admission.{admit-by, Mountable, shape-admitted, shape-changeless, mount-changeless, mount-admitted}
+use Rattle.device.proofs.Plan.{budget-by, all-join, all-if}
 
 module _ (P : ℕ) where
   zero-from : (m : Media) (f n : ℕ) → length (m .bytes) ≡ mediaBytes P → f < files → nonzeroFrom P m f n ≡ false
@@ -354,31 +348,3 @@ trims-more needed size n f = rw add-one (go n f)
     go : (n f : ℕ) → trimsFrom needed size (suc n) f ≡ trimsFrom needed size n f ++ writeIf (needed (f + n)) (trim (f + n) (size (f + n)))
     go zero f = let e : f + 0 ≡ f = omega arith in rw (append-nil, e)
     go (suc n) f = let e : suc f + n ≡ f + suc n = omega arith in rw (append-assoc, ← e) (ap (λ l. writeIf (needed f) (trim f (size f)) ++ l) (go n (suc f)))
-
-module _ (P : ℕ) (d : Device) (budget : ℕ) where
-  module _ (a : Answer) (x : Refusal) (q : a ≡ Refused x) where
-    pub mount-refused : coded a ≡ firstRefusal (mountTests P (d .media)) (done 0) → give (codedRefusal x) d ≡ mount P budget d
-    unfolding mount
-    mount-refused e = admit-refused (mountTests P (d .media)) d _ x (coded-of a (Refused x) _ q e)
-
-    pub format-refused : coded a ≡ firstRefusal (mediaShape P (d .media)) (done 0) → give (codedRefusal x) d ≡ format P budget d
-    unfolding format
-    format-refused e = admit-refused (mediaShape P (d .media)) d _ x (coded-of a (Refused x) _ q e)
-
-  module _ (h : passed (mountTests P (d .media)) ≡ true) (n : ℕ) (c : Media) (s : Spent P budget (d .media) 0 n (mountPlan P (d .media)) c) where
-    pub mount-cuts : budget < n → give (CUT budget) (deviceOf c (d .frames) downState) ≡ mount P budget d
-    unfolding mount
-    mount-cuts l = spent-cut P budget (mountPlan P (d .media)) (mountedState (d .media .sizes)) d n c s l ∙ admit-passed (mountTests P (d .media)) d _ h
-
-    pub mount-ends : n ≤ budget → give (done n) (deviceOf c (d .frames) (mountedState (d .media .sizes))) ≡ mount P budget d
-    unfolding mount
-    mount-ends l = spent-done P budget (mountPlan P (d .media)) (mountedState (d .media .sizes)) d n c s l ∙ admit-passed (mountTests P (d .media)) d _ h
-
-  module _ (h : passed (mediaShape P (d .media)) ≡ true) (n : ℕ) (c : Media) (s : Spent P budget (d .media) 0 n (formatPlan P (d .media)) c) where
-    pub format-cuts : budget < n → give (CUT budget) (deviceOf c (d .frames) downState) ≡ format P budget d
-    unfolding format
-    format-cuts l = spent-cut P budget (formatPlan P (d .media)) downState d n c s l ∙ admit-passed (mediaShape P (d .media)) d _ h
-
-    pub format-ends : n ≤ budget → give (done n) (deviceOf c (d .frames) downState) ≡ format P budget d
-    unfolding format
-    format-ends l = spent-done P budget (formatPlan P (d .media)) downState d n c s l ∙ admit-passed (mediaShape P (d .media)) d _ h

@@ -11,15 +11,17 @@ use lib.ListN.{length, take, length-append}
 use lib.Seq.{take-nil, take-all}
 use borrow.Author.Tests.{lt-ltb, le-ltb, le-leb, lt-leb}
 use Rattle.answer.specs.Coded.{done, CUT}
-use Rattle.answer.specs.Admission.{test, firstRefusal}
+use Rattle.answer.specs.Admission.{Test, test, firstRefusal}
+use Rattle.answer.proofs.Admission.{passed}
 use Rattle.memory.proofs.Cases.{split-lt}
 use Rattle.media.specs.Geometry.{files, fileBytes, mediaBytes}
 use Rattle.media.specs.Write.{Media, MediaWrite, byteAt, sizeAt, apply, applyAll, InLimits, fileOf, All}
 use Rattle.media.proofs.Write.{all-append, others-byte, others-size}
 use Rattle.device.specs.declared.CacheState.{CacheState}
 use Rattle.device.specs.Device.{Device, deviceOf, downState}
-use Rattle.device.specs.Admission.{Result, give}
-use Rattle.device.specs.Plan.{writeIf, underBudget, Spent}
+use Rattle.device.specs.Admission.{Result, give, admit}
+use Rattle.device.specs.Plan.{writeIf, budgeted, underBudget, Spent}
+use Rattle.device.proofs.Admission.{admit-passed}
 
 -- ---- lists of writes
 
@@ -63,7 +65,7 @@ module _ (P budget : ℕ) (plan : List MediaWrite) (s : CacheState) (d : Device)
       → (length plan ≤ budget → Q (give (done (length plan)) (deviceOf (applyAll P (d .media) plan) (d .frames) s)))
       → Q (underBudget P budget plan s d)
   unfolding underBudget
-  budget-by Q x y = split-lt budget (length plan) (λ l. rw (lt-ltb _ _ l) (x l)) (λ l. rw (le-ltb _ _ l) (y l))
+  budget-by Q x y = split-lt budget (length plan) (λ l. rw (lt-ltb _ _ l) (x l)) (λ l. rw (le-ltb _ _ l, take-all budget plan l) (y l))
 
   pub budget-answer : underBudget P budget plan s d .answer ≡ firstRefusal (test (leb (length plan) budget) (CUT budget) ∷ []) (done (length plan))
   budget-answer =
@@ -98,23 +100,14 @@ module _ (P budget : ℕ) (m : Media) (needed : ℕ) where
         media = y .media ∙ rw (take-join (budget - needed) ws vs, all-append, ← (x .media), ← q);
       }
 
--- the whole plan: what the call gives where it is cut, and where it is done
+-- the whole plan of a call that is admitted
 module _ (P budget : ℕ) (plan : List MediaWrite) (s : CacheState) (d : Device) (n : ℕ) (c : Media) (x : Spent P budget (d .media) 0 n plan c) where
-  pub spent-cut : budget < n → give (CUT budget) (deviceOf c (d .frames) downState) ≡ underBudget P budget plan s d
+  pub plan-ends : (ts : List Test) → passed ts ≡ true → budgeted budget n c (d .frames) s ≡ admit ts d (underBudget P budget plan s d)
   unfolding underBudget
-  spent-cut l =
-      let k : budget < length plan = omega (arith, x .count) in
-      let e : c ≡ applyAll P (d .media) (take budget plan) = rw sub-zero at (x .media) in
-      ap (λ (m : Media). give (CUT budget) (deviceOf m (d .frames) downState)) e ∙ rw (lt-ltb budget (length plan) k)
-
-  pub spent-done : n ≤ budget → give (done n) (deviceOf c (d .frames) s) ≡ underBudget P budget plan s d
-  unfolding underBudget
-  spent-done l =
+  plan-ends ts h =
       let en : n ≡ length plan = omega (arith, x .count) in
-      let k : length plan ≤ budget = omega arith in
-      let q : budget - 0 ≡ budget = omega arith in
-      let e : c ≡ applyAll P (d .media) plan = x .media ∙ rw (q, take-all budget plan k) in
-      rw (en, e) (rw (le-ltb budget (length plan) k))
+      let e : c ≡ applyAll P (d .media) (take budget plan) = rw sub-zero at (x .media) in
+      rw (en, e) (admit-passed ts d _ h)
 
 -- ---- writes to one file
 

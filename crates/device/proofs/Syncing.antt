@@ -12,10 +12,7 @@ use lib.ListN.{length, getD, take, length-append, length-set}
 use lib.Seq.{getD-set-same, getD-set-other, take-nil, take-append-le, take-length}
 use borrow.Author.Tests.{eq-eqb, ne-eqb, lt-ltb, le-ltb, ltb-true, ltb-false, le-leb, lt-leb}
 use borrow.Table.Steps.{cases}
-use Rattle.answer.specs.Coded.{refused, done, CUT, codedRefusal}
-use Rattle.answer.specs.Admission.{firstRefusal}
-use Rattle.answer.specs.declared.Refusal.{Refusal}
-use Rattle.answer.proofs.Admission.{passed}
+use Rattle.answer.specs.Coded.{refused, done, CUT}
 use Rattle.memory.specs.Bytes.{part}
 use Rattle.memory.proofs.Cases.{split-lt, split-eq}
 use Rattle.memory.proofs.Bytes.{length-part, getD-part}
@@ -25,15 +22,15 @@ use Rattle.media.specs.Write.MediaWrite.{page, size, trim}
 use Rattle.media.proofs.Write.{bytes-stay, sizes-stay, byte-after-page, byte-after-trim, all-append, all-bytes-stay, all-sizes-stay}
 use Rattle.device.specs.Device.{Device, deviceOf, slotCount, framesBytes, frameStart, slotOf, isCached, logicalAt, floorAt, freeWhere, downState}
 use Rattle.device.specs.Current.{currentAt}
-use Rattle.device.specs.Admission.{Result, give, fileTests}
-use Rattle.device.specs.Plan.{writeIf, Spent}
+use Rattle.device.specs.Admission.{Result, give}
+use Rattle.device.specs.Plan.{writeIf}
 use Rattle.device.specs.Syncing.{trimWrites, pageWrite, pageWrites, sizeWrites, syncPlan, pagesOf, syncedState, sync}
 use Rattle.device.specs.Truncating.{pagesFrom}
 use Rattle.device.specs.declared.Slot.{Slot}
 use Rattle.device.proofs.Current.{current-cached, current-media, current-zero, current-same}
 use Rattle.device.proofs.Device.{slot-gone, slot-stays}
-use Rattle.device.proofs.Admission.{Admitted, file-by, admit-refused, admit-passed}
-use Rattle.device.proofs.Plan.{all-join, all-if, at-most-one, budget-by, spent-cut, spent-done, Own, own-other-byte, own-other-size}
+use Rattle.device.proofs.Admission.{Admitted, file-by}
+use Rattle.device.proofs.Plan.{all-join, all-if, at-most-one, budget-by, Own, own-other-byte, own-other-size}
 use Rattle.device.proofs.Sound.{Fit, freed-fit}
 
 -- a sync is refused with everything as it came, cut, or done
@@ -434,18 +431,3 @@ free-all f (s ∷ slots) = rw (one s) (ap (λ l. freeWhere (pagesOf f) s ∷ l) 
   where
     one : (s : Slot) → freeWhere (pagesFrom f 0) s ≡ freeWhere (pagesOf f) s
     one s = cases (eqb (s .file) f) (λ e. rw (e, le-leb 0 (pageBytes * s .page) (omega arith))) (λ e. rw e)
-
--- refused, cut or done
-module _ (P f budget : ℕ) (d : Device) where
-  pub sync-refused : (x : Refusal) → codedRefusal x ≡ firstRefusal (fileTests P d f true) (done 0) → give (codedRefusal x) d ≡ sync P f budget d
-  unfolding sync
-  sync-refused x e = admit-refused (fileTests P d f true) d _ x e
-
-  module _ (h : passed (fileTests P d f true) ≡ true) (n : ℕ) (c : Media) (s : Spent P budget (d .media) 0 n (syncPlan P d f) c) where
-    pub sync-cuts : budget < n → give (CUT budget) (deviceOf c (d .frames) downState) ≡ sync P f budget d
-    unfolding sync
-    sync-cuts l = spent-cut P budget (syncPlan P d f) (syncedState (d .cache) f) d n c s l ∙ admit-passed (fileTests P d f true) d _ h
-
-    pub sync-ends : n ≤ budget → give (done n) (deviceOf c (d .frames) (syncedState (d .cache) f)) ≡ sync P f budget d
-    unfolding sync
-    sync-ends l = spent-done P budget (syncPlan P d f) (syncedState (d .cache) f) d n c s l ∙ admit-passed (fileTests P d f true) d _ h

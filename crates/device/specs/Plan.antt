@@ -15,12 +15,14 @@ use Rattle.device.specs.Admission.{Result, give}
 unfoldable pub writeIf : Bool → MediaWrite → List MediaWrite
 writeIf b w = cond b (w ∷ []) []
 
--- done with the number of writes, and the state s; or CUT after as many first writes as the budget pays for, and down
+-- what a call gives that needed n media writes and left m: done with n, and the state s; or CUT, and down
+abbrev pub budgeted : ℕ → ℕ → Media → List ℕ → CacheState → Result Device
+budgeted budget n m frames s =
+    cond (ltb budget n) (give (CUT budget) (deviceOf m frames downState)) (give (done n) (deviceOf m frames s))
+
+-- as many first writes of the plan are done as the budget pays for: all of them, or else it is CUT
 unfoldable pub underBudget : ℕ → ℕ → List MediaWrite → CacheState → Device → Result Device
-underBudget P budget plan s d =
-    cond (ltb budget (length plan))
-    (give (CUT budget) (deviceOf (applyAll P (d .media) (take budget plan)) (d .frames) downState))
-    (give (done (length plan)) (deviceOf (applyAll P (d .media) plan) (d .frames) s))
+underBudget P budget plan s d = budgeted budget (length plan) (applyAll P (d .media) (take budget plan)) (d .frames) s
 
 -- a part ws of a plan, after `needed` writes before it, from media m: n writes are needed with it, and c is the media after as
 -- many of it as the budget still pays for

@@ -12,15 +12,15 @@ ghost use mathlib.Core.List.{List, []};
 ghost use Prim.Native.Nat.{ℕ, _≤_, _<_, _^_};
 ghost use lib.ListN.{length, getD};
 ghost use lib.Dec.{eqb};
-ghost use Rattle.answer.specs.Coded.{coded, CUT};
+ghost use Rattle.answer.specs.Coded.{coded};
 ghost use Rattle.memory.specs.Bytes.{part};
 ghost use Rattle.media.specs.Geometry.{files, pagesPerFile, pageBytes, fileBytes, mediaBytes};
-ghost use Rattle.media.specs.Write.{mediaOf, sizeAt, apply};
+ghost use Rattle.media.specs.Write.{Media, mediaOf, sizeAt, apply};
 ghost use Rattle.media.specs.Write.MediaWrite.{page, trim};
 ghost use Rattle.device.specs.Scan.{every};
-ghost use Rattle.device.specs.Device.{deviceOf, downState, slotCount, framesBytes, frameStart};
+ghost use Rattle.device.specs.Device.{deviceOf, slotCount, framesBytes, frameStart};
 ghost use Rattle.device.specs.Admission.{give};
-ghost use Rattle.device.specs.Plan.{writeIf, Spent};
+ghost use Rattle.device.specs.Plan.{writeIf, budgeted, Spent};
 ghost use Rattle.device.specs.Syncing.{syncPlan, syncedState, sync};
 ghost use Rattle.device.specs.Mounting.{nonzeroFrom, mountPlan, mount, formatPlan, format};
 ghost use Rattle.writeback.specs.Planned.{syncPlace, plannedWrites, Allowed};
@@ -170,13 +170,20 @@ fn sync_writes(
     needed
 }
 
-// CUT, which leaves the device down.
-fn cut(budget: usize) -> Outcome
-    ensures { λ r. ⌜ (coded (r .answer) ≡ CUT budget) × (r .cache ≡ downState) ⌝ }
+// What a call gives that needed so many media writes: done with their number and this state; or CUT, which leaves the device
+// down.
+fn outcome(writes: usize, budget: usize, state: CacheState) -> Outcome
+    ensures { λ r. ⌜ ((m : Media) (frames : List ℕ) → give (coded (r .answer)) (deviceOf m frames (r .cache)) ≡ budgeted budget writes m frames state) ⌝ }
 {
+    if budget < writes {
+        return Outcome {
+            answer: Answer::Refused(Refusal::Cut(budget)),
+            cache: cache_state::down_state(),
+        };
+    }
     Outcome {
-        answer: Answer::Refused(Refusal::Cut(budget)),
-        cache: cache_state::down_state(),
+        answer: Answer::Done(writes),
+        cache: state,
     }
 }
 
@@ -211,13 +218,7 @@ pub fn sync(
         },
         Answer::Done(_) => {
             let writes = sync_writes(media, sizes, frames, cache, file, budget);
-            if budget < writes {
-                return cut(budget);
-            }
-            Outcome {
-                answer: Answer::Done(writes),
-                cache: synced_state(cache, file),
-            }
+            outcome(writes, budget, synced_state(cache, file))
         }
     }
 }
@@ -312,13 +313,7 @@ pub fn mount(media: &mut [u8], sizes: &mut [u32], cache: CacheState, budget: usi
         Answer::Done(_) => {
             let found = sizes_array(sizes);
             let trims = mount_files(media, sizes, budget);
-            if budget < trims {
-                return cut(budget);
-            }
-            Outcome {
-                answer: Answer::Done(trims),
-                cache: cache_state::mounted_state(found),
-            }
+            outcome(trims, budget, cache_state::mounted_state(found))
         }
     }
 }
@@ -363,14 +358,8 @@ pub fn format(media: &mut [u8], sizes: &mut [u32], cache: CacheState, budget: us
             cache,
         },
         Answer::Done(_) => {
-            let n = format_files(media, sizes, budget);
-            if budget < n {
-                return cut(budget);
-            }
-            Outcome {
-                answer: Answer::Done(n),
-                cache: cache_state::down_state(),
-            }
+            let trims = format_files(media, sizes, budget);
+            outcome(trims, budget, cache_state::down_state())
         }
     }
 }

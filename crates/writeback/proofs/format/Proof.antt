@@ -1,17 +1,19 @@
--- `writeback::format` meets its contract: the admission decides, then the budget: a law of `format` for each of its three ends.
-use mathlib.Core.Path.{_≡_}
+-- `writeback::format` meets its contract: the admission decides, then the budget.
+use mathlib.Core.Path.{_≡_, _∙_}
 use mathlib.Core.Bool.{true}
 use mathlib.Core.List.{List, []}
 use Prim.Native.Nat.{ℕ}
-use native.Mathlib.Omega.{arith}
 use borrow.Author.Needs.{needs}
+use Rattle.answer.specs.declared.Answer.the-variants.{Refused}
+use Rattle.answer.proofs.Coded.{coded-of}
 use Rattle.answer.proofs.Admission.{passed}
 use Rattle.media.specs.Geometry.{pagesPerFile}
 use Rattle.media.specs.Write.{Media, mediaOf}
 use Rattle.device.specs.Device.{Device, deviceOf}
 use Rattle.device.specs.Admission.{mediaShape}
-use Rattle.device.proofs.Admission.{shape-admitted, shape-passed}
-use Rattle.device.proofs.Mounting.{format-refused, format-cuts, format-ends}
+use Rattle.device.specs.Mounting.{formatPlan, format}
+use Rattle.device.proofs.Admission.{admit-refused, shape-admitted, shape-passed}
+use Rattle.device.proofs.Plan.{plan-ends}
 use Rattle.writeback.proofs.format.Statement.{statement}
 use Rattle.writeback.proofs.format.Tie as tie
 
@@ -40,8 +42,11 @@ enum-told c = search needs
 format-files-requires : tie.Need-format-files-requires
 format-files-requires c κs = let t = c .before .before in shape-admitted pagesPerFile (device (start t) []) (all t)
 
-cut-requires : tie.Need-cut-requires
-cut-requires c κs = search needs
+down-state-requires : tie.Need-down-state-requires
+down-state-requires c κs = search needs
+
+outcome-requires : tie.Need-outcome-requires
+outcome-requires c κs = search needs
 
 same-length : tie.Need-same-length
 same-length c = search needs
@@ -50,14 +55,12 @@ same-length-2 : tie.Need-same-length-2
 same-length-2 c = search needs
 
 returns : tie.Need-returns
+unfolding format
 returns c =
-    let w = c .before .before .before .before .before .before in
-    let t = w .before .before .before in
-    let s = start t in
-    λ frames. rw (c .cut .ensures .0, c .cut .ensures .1) (format-cuts pagesPerFile (device s frames) (s .args .budget) (all t) (w .format-files .result) _ (w .format-files .ensures) (omega arith))
-
-down-state-requires : tie.Need-down-state-requires
-down-state-requires c κs = search needs
+    let b = c .before .before .before in
+    let s = b .before .before .before .before .before in
+    let x = c .before .admission .given .0 .0 in
+    λ frames. admit-refused (mediaShape pagesPerFile (media-of s)) (device s frames) _ x (coded-of (b .admit-format .result) (Refused x) _ (c .before .admission .given .1) (b .admit-format .ensures))
 
 same-length-3 : tie.Need-same-length-3
 same-length-3 c = search needs
@@ -66,23 +69,14 @@ same-length-4 : tie.Need-same-length-4
 same-length-4 c = search needs
 
 returns-2 : tie.Need-returns-2
+unfolding format
 returns-2 c =
-    let b = c .before .before .before in
-    let s = b .before .before .before .before .before in
-    λ frames. format-refused pagesPerFile (device s frames) (s .args .budget) (b .admit-format .result) _ (c .before .admission .given .1) (b .admit-format .ensures)
-
-same-length-5 : tie.Need-same-length-5
-same-length-5 c = search needs
-
-same-length-6 : tie.Need-same-length-6
-same-length-6 c = search needs
-
-returns-3 : tie.Need-returns-3
-returns-3 c =
-    let w = c .before .before .before .before .before .before in
+    let y = c .before in
+    let w = y .before .before .before .before .before in
     let t = w .before .before .before in
     let s = start t in
-    λ frames. rw (c .down-state .ensures) (format-ends pagesPerFile (device s frames) (s .args .budget) (all t) (w .format-files .result) _ (w .format-files .ensures) (omega arith))
+    λ frames. c .outcome .ensures _ frames
+    ∙ rw (y .down-state .ensures) (plan-ends pagesPerFile (s .args .budget) (formatPlan pagesPerFile (media-of s)) _ (device s frames) (w .format-files .result) _ (w .format-files .ensures) (mediaShape pagesPerFile (media-of s)) (all t))
 
 pub format-spec : {M : Type 1} → statement M
 format-spec =
@@ -92,14 +86,11 @@ format-spec =
     enum-known-admission
     enum-told
     format-files-requires
-    cut-requires
+    down-state-requires
+    outcome-requires
     same-length
     same-length-2
     returns
-    down-state-requires
     same-length-3
     same-length-4
-    returns-2
-    same-length-5
-    same-length-6
-    returns-3)
+    returns-2)

@@ -1,17 +1,19 @@
--- `writeback::mount` meets its contract: the admission decides, then the budget: a law of `mount` for each of its three ends.
-use mathlib.Core.Path.{_≡_}
+-- `writeback::mount` meets its contract: the admission decides, then the budget.
+use mathlib.Core.Path.{_≡_, _∙_}
 use mathlib.Core.Bool.{true}
 use mathlib.Core.List.{List, []}
 use Prim.Native.Nat.{ℕ}
-use native.Mathlib.Omega.{arith}
 use borrow.Author.Needs.{needs}
+use Rattle.answer.specs.declared.Answer.the-variants.{Refused}
+use Rattle.answer.proofs.Coded.{coded-of}
 use Rattle.answer.proofs.Admission.{passed}
 use Rattle.media.specs.Geometry.{pagesPerFile}
 use Rattle.media.specs.Write.{Media, mediaOf}
 use Rattle.device.specs.Device.{Device, deviceOf}
 use Rattle.device.specs.Admission.{mountTests}
-use Rattle.device.proofs.Admission.{Mountable, mount-admitted, mount-passed}
-use Rattle.device.proofs.Mounting.{mount-refused, mount-cuts, mount-ends}
+use Rattle.device.specs.Mounting.{mountPlan, mount}
+use Rattle.device.proofs.Admission.{Mountable, admit-refused, mount-admitted, mount-passed}
+use Rattle.device.proofs.Plan.{plan-ends}
 use Rattle.writeback.proofs.mount.Statement.{statement}
 use Rattle.writeback.proofs.mount.Tie as tie
 
@@ -46,8 +48,11 @@ sizes-array-requires c κs = ready (c .before) .sizes
 mount-files-requires : tie.Need-mount-files-requires
 mount-files-requires c κs = let ok = ready (c .before .before .before .before) in (ok .bytes, ok .sizes, ok .fit)
 
-cut-requires : tie.Need-cut-requires
-cut-requires c κs = search needs
+mounted-state-requires : tie.Need-mounted-state-requires
+mounted-state-requires c κs = search needs
+
+outcome-requires : tie.Need-outcome-requires
+outcome-requires c κs = search needs
 
 same-length : tie.Need-same-length
 same-length c = search needs
@@ -56,14 +61,12 @@ same-length-2 : tie.Need-same-length-2
 same-length-2 c = search needs
 
 returns : tie.Need-returns
+unfolding mount
 returns c =
-    let w = c .before .before .before .before .before .before in
-    let t = w .before .before .before .before .before in
-    let s = start t in
-    λ frames. rw (c .cut .ensures .0, c .cut .ensures .1) (mount-cuts pagesPerFile (device s frames) (s .args .budget) (all t) (w .mount-files .result) _ (w .mount-files .ensures) (omega arith))
-
-mounted-state-requires : tie.Need-mounted-state-requires
-mounted-state-requires c κs = search needs
+    let b = c .before .before .before in
+    let s = b .before .before .before .before .before in
+    let x = c .before .admission .given .0 .0 in
+    λ frames. admit-refused (mountTests pagesPerFile (media-of s)) (device s frames) _ x (coded-of (b .admit-mount .result) (Refused x) _ (c .before .admission .given .1) (b .admit-mount .ensures))
 
 same-length-3 : tie.Need-same-length-3
 same-length-3 c = search needs
@@ -72,24 +75,15 @@ same-length-4 : tie.Need-same-length-4
 same-length-4 c = search needs
 
 returns-2 : tie.Need-returns-2
+unfolding mount
 returns-2 c =
-    let b = c .before .before .before in
-    let s = b .before .before .before .before .before in
-    λ frames. mount-refused pagesPerFile (device s frames) (s .args .budget) (b .admit-mount .result) _ (c .before .admission .given .1) (b .admit-mount .ensures)
-
-same-length-5 : tie.Need-same-length-5
-same-length-5 c = search needs
-
-same-length-6 : tie.Need-same-length-6
-same-length-6 c = search needs
-
-returns-3 : tie.Need-returns-3
-returns-3 c =
-    let w = c .before .before .before .before .before .before in
+    let y = c .before in
+    let w = y .before .before .before .before .before in
     let z = w .before .before .before in
     let t = z .before .before in
     let s = start t in
-    λ frames. rw (c .mounted-state .ensures, z .sizes-array .ensures) (mount-ends pagesPerFile (device s frames) (s .args .budget) (all t) (w .mount-files .result) _ (w .mount-files .ensures) (omega arith))
+    λ frames. c .outcome .ensures _ frames
+    ∙ rw (y .mounted-state .ensures, z .sizes-array .ensures) (plan-ends pagesPerFile (s .args .budget) (mountPlan pagesPerFile (media-of s)) _ (device s frames) (w .mount-files .result) _ (w .mount-files .ensures) (mountTests pagesPerFile (media-of s)) (all t))
 
 pub mount-spec : {M : Type 1} → statement M
 mount-spec =
@@ -100,14 +94,11 @@ mount-spec =
     enum-told
     sizes-array-requires
     mount-files-requires
-    cut-requires
+    mounted-state-requires
+    outcome-requires
     same-length
     same-length-2
     returns
-    mounted-state-requires
     same-length-3
     same-length-4
-    returns-2
-    same-length-5
-    same-length-6
-    returns-3)
+    returns-2)

@@ -1,16 +1,16 @@
--- `writeback::sync` meets its contract: the admission decides, then the budget: a law of `sync` for each of its three ends.
-use mathlib.Core.Path.{_≡_}
+-- `writeback::sync` meets its contract: the admission decides, then the budget.
+use mathlib.Core.Path.{_≡_, _∙_}
 use mathlib.Core.Bool.{true}
-use native.Mathlib.Omega.{arith}
 use borrow.Author.Needs.{needs}
 use Rattle.answer.proofs.Admission.{passed}
 use Rattle.media.specs.Geometry.{pagesPerFile}
 use Rattle.media.specs.Write.{mediaOf}
 use Rattle.device.specs.Device.{Device, deviceOf}
 use Rattle.device.specs.Admission.{fileTests}
+use Rattle.device.specs.Syncing.{syncPlan, sync}
 use Rattle.device.proofs.Sound.{sound-sizes}
-use Rattle.device.proofs.Admission.{Admitted, file-passed, file-refused, file-admitted}
-use Rattle.device.proofs.Syncing.{sync-refused, sync-cuts, sync-ends}
+use Rattle.device.proofs.Admission.{Admitted, admit-refused, file-passed, file-refused, file-admitted}
+use Rattle.device.proofs.Plan.{plan-ends}
 use Rattle.writeback.proofs.sync.Statement.{statement}
 use Rattle.writeback.proofs.sync.Tie as tie
 
@@ -42,8 +42,11 @@ sync-writes-requires c κs =
     let z = sound-sizes pagesPerFile _ _ _ (ok .sound) (ok .file) in
     (ok .bytes, ok .sizes, ok .frames, ok .file, z .0, z .1)
 
-cut-requires : tie.Need-cut-requires
-cut-requires c κs = search needs
+synced-state-requires : tie.Need-synced-state-requires
+synced-state-requires c κs = ready (c .before .before .before .before .before .before .before) .file
+
+outcome-requires : tie.Need-outcome-requires
+outcome-requires c κs = search needs
 
 same-length : tie.Need-same-length
 same-length c = search needs
@@ -52,14 +55,12 @@ same-length-2 : tie.Need-same-length-2
 same-length-2 c = search needs
 
 returns : tie.Need-returns
+unfolding sync
 returns c =
-    let w = c .before .before .before .before .before .before in
-    let t = w .before .before .before in
-    let s = start t in
-    rw (c .cut .ensures .0, c .cut .ensures .1) (sync-cuts pagesPerFile (s .args .file) (s .args .budget) (device s) (all t) (w .sync-writes .result) _ (w .sync-writes .ensures) (omega arith))
-
-synced-state-requires : tie.Need-synced-state-requires
-synced-state-requires c κs = ready (c .before .before .before .before .before .before .before .before) .file
+    let b = c .before .before .before in
+    let s = b .before .before .before .before .before .before in
+    let x = c .before .admission .given .0 .0 in
+    admit-refused (fileTests pagesPerFile (device s) (s .args .file) true) (device s) _ x (file-refused pagesPerFile (device s) (s .args .file) true (b .admit .result) (b .admit .ensures) x (c .before .admission .given .1))
 
 same-length-3 : tie.Need-same-length-3
 same-length-3 c = search needs
@@ -68,24 +69,14 @@ same-length-4 : tie.Need-same-length-4
 same-length-4 c = search needs
 
 returns-2 : tie.Need-returns-2
+unfolding sync
 returns-2 c =
-    let b = c .before .before .before in
-    let s = b .before .before .before .before .before .before in
-    let x = c .before .admission .given .0 .0 in
-    sync-refused pagesPerFile (s .args .file) (s .args .budget) (device s) x (file-refused pagesPerFile (device s) (s .args .file) true (b .admit .result) (b .admit .ensures) x (c .before .admission .given .1))
-
-same-length-5 : tie.Need-same-length-5
-same-length-5 c = search needs
-
-same-length-6 : tie.Need-same-length-6
-same-length-6 c = search needs
-
-returns-3 : tie.Need-returns-3
-returns-3 c =
-    let w = c .before .before .before .before .before .before in
+    let y = c .before in
+    let w = y .before .before .before .before .before in
     let t = w .before .before .before in
     let s = start t in
-    rw (c .synced-state .ensures) (sync-ends pagesPerFile (s .args .file) (s .args .budget) (device s) (all t) (w .sync-writes .result) _ (w .sync-writes .ensures) (omega arith))
+    c .outcome .ensures _ (s .args .frames .now)
+    ∙ rw (y .synced-state .ensures) (plan-ends pagesPerFile (s .args .budget) (syncPlan pagesPerFile (device s) (s .args .file)) _ (device s) (w .sync-writes .result) _ (w .sync-writes .ensures) (fileTests pagesPerFile (device s) (s .args .file) true) (all t))
 
 pub sync-spec : {M : Type 1} → statement M
 sync-spec =
@@ -95,14 +86,11 @@ sync-spec =
     enum-known-admission
     enum-told
     sync-writes-requires
-    cut-requires
+    synced-state-requires
+    outcome-requires
     same-length
     same-length-2
     returns
-    synced-state-requires
     same-length-3
     same-length-4
-    returns-2
-    same-length-5
-    same-length-6
-    returns-3)
+    returns-2)
