@@ -29,7 +29,7 @@ ghost use Rattle.answer.specs.Coded.{coded};
 ghost use Rattle.memory.specs.Bytes.{part, overwrite};
 ghost use Rattle.media.specs.Geometry.{files, fileBytes, mediaBytes, pageBytes, pageStart, pagesPerFile};
 ghost use Rattle.media.specs.Write.{mediaOf};
-ghost use Rattle.device.specs.Scan.{firstIndex};
+ghost use Rattle.scan.specs.Scan.{firstIndex};
 ghost use Rattle.device.specs.Device.{freeWhere, withLogical, withSlots, deviceOf, slotCount, framesBytes, isFree};
 ghost use Rattle.device.specs.Admission.{give};
 ghost use Rattle.device.specs.Sound.{sizesIn};

@@ -14,7 +14,7 @@ ghost use Rattle.answer.specs.Coded.{coded, done};
 ghost use Rattle.answer.specs.Admission.{firstRefusal};
 ghost use Rattle.media.specs.Geometry.{files, fileBytes, pagesPerFile};
 ghost use Rattle.media.specs.Write.{mediaOf};
-ghost use Rattle.device.specs.Scan.{firstIndex, every, everyBelow};
+ghost use Rattle.scan.specs.Scan.{firstIndex, every, everyBelow};
 ghost use Rattle.device.specs.Device.{deviceOf, slotCount, freeSlot, holds, isFree, freeWhere, withSlots, downState, mountedState};
 ghost use Rattle.device.specs.Sizes.{inOrder};
 ghost use Rattle.device.specs.Sound.{inRange, holdsAlone, sizesIn, isDown, isSound};

@@ -18,11 +18,11 @@ use Rattle.answer.specs.declared.Answer.{Answer}
 use Rattle.answer.specs.declared.Answer.the-variants.{Done, Refused}
 use Rattle.media.specs.Geometry.{files, fileBytes, mediaBytes}
 use Rattle.media.specs.Write.{Media}
-use Rattle.device.specs.Scan.{every}
+use Rattle.scan.specs.Scan.{every}
 use Rattle.device.specs.Device.{Device, framesBytes}
 use Rattle.device.specs.Sound.{isSound}
 use Rattle.device.specs.Admission.{Result, give, admit, mediaShape, framesShape, sizesFit, stateTests, mountTests, deviceTests, fileTests}
-use Rattle.device.proofs.Scan.{every-at, every-all}
+use Rattle.scan.proofs.Scan.{every-at, every-all}
 use Rattle.device.proofs.Sound.{Fit, fit-sound}
 
 module _ {A : Type 0} (before : A) where

@@ -16,7 +16,7 @@ use Rattle.media.specs.Write.{byteAt}
 use Rattle.media.proofs.Geometry.{file-end}
 use Rattle.device.specs.Device.{Device, deviceOf, slotCount, freeSlot, holds, slotOf, floorAt, framesBytes, frameStart}
 use Rattle.device.specs.Current.{frameByte, currentAt, currentBytes}
-use Rattle.device.proofs.Scan.{first-passes}
+use Rattle.scan.proofs.Scan.{first-passes}
 use Rattle.device.proofs.Device.{holds-is}
 
 module _ (P : ℕ) where

@@ -14,9 +14,9 @@ use Rattle.memory.proofs.Cases.{split-lt}
 use Rattle.memory.proofs.Bytes.{overwrite-before, overwrite-after}
 use Rattle.media.specs.Geometry.{pageBytes}
 use Rattle.device.specs.declared.Slot.{Slot}
-use Rattle.device.specs.Scan.{firstIndex}
+use Rattle.scan.specs.Scan.{firstIndex}
 use Rattle.device.specs.Device.{Device, frameStart, freeSlot, isFree, holds, slotOf, firstFree, freeWhere}
-use Rattle.device.proofs.Scan.{and-left, and-right, is-false, true-not-false, first-passes, first-map, first-map-none}
+use Rattle.scan.proofs.Scan.{and-left, and-right, is-false, true-not-false, first-passes, first-map, first-map-none}
 
 -- ---- slots
 

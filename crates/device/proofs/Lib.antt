@@ -1,4 +1,3 @@
-pub mod Scan
 pub mod Device
 pub mod Current
 pub mod Sizes
@@ -11,4 +10,3 @@ pub mod Plan
 pub mod Syncing
 pub mod Mounting
 pub mod Looking
-pub mod Loops

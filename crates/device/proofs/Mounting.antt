@@ -23,10 +23,10 @@ use Rattle.media.proofs.Geometry.{file-end}
 use Rattle.media.proofs.Write.{bytes-stay, sizes-stay, byte-after-trim, size-after-trim, other-byte, other-size, all-bytes-stay, all-sizes-stay}
 use Rattle.device.specs.Device.{Device, deviceOf, downState, mountedState}
 use Rattle.device.specs.Admission.{Result, give, mediaShape, mountTests}
-use Rattle.device.specs.Scan.{every}
+use Rattle.scan.specs.Scan.{every}
 use Rattle.device.specs.Plan.{writeIf}
 use Rattle.device.specs.Mounting.{trimsFrom, nonzeroFrom, mountPlan, mount, formatPlan, format}
-use Rattle.device.proofs.Scan.{or-left, or-right, every-at}
+use Rattle.scan.proofs.Scan.{or-left, or-right, every-at}
 use Rattle.device.proofs.Admission.{admit-by, Mountable, shape-admitted, shape-changeless, mount-changeless, mount-admitted}
 use Rattle.device.proofs.Plan.{budget-by, all-join, all-if}
 

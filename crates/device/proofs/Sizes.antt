@@ -12,7 +12,7 @@ use Rattle.answer.specs.declared.Answer.{Answer}
 use Rattle.answer.specs.declared.Answer.the-variants.{Done, Refused}
 use Rattle.device.specs.declared.FileSizes.{FileSizes}
 use Rattle.device.specs.Sizes.{orderTests, inOrder, truncatedSizes, sizesTests, sizesAnswer, sizesAfter}
-use Rattle.device.proofs.Scan.{allOf-at}
+use Rattle.scan.proofs.Scan.{allOf-at}
 
 module _ (greatest : ℕ) where
   pub order-is : (s : FileSizes) → inOrder greatest s ≡ true → (s .floor ≤ s .logical) × (s .logical ≤ greatest) × (s .floor ≤ s .stored)

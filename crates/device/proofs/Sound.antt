@@ -15,11 +15,11 @@ use Rattle.memory.proofs.Bytes.{getD-zeros}
 use Rattle.media.specs.Geometry.{files, fileBytes, mediaBytes}
 use Rattle.device.specs.declared.Slot.{Slot}
 use Rattle.device.specs.declared.CacheState.{CacheState}
-use Rattle.device.specs.Scan.{allOf, every, everyBelow, firstIndex}
+use Rattle.scan.specs.Scan.{allOf, every, everyBelow, firstIndex}
 use Rattle.device.specs.Device.{Device, downState, slotCount, freeSlot, noSlots, isFree, holds, freeWhere}
 use Rattle.device.specs.Sizes.{inOrder}
 use Rattle.device.specs.Sound.{inRange, holdsAlone, isDown, sizesIn, sizesOf, soundTests, isSound}
-use Rattle.device.proofs.Scan.{and-left, and-right, is-false, true-not-false, allOf-at, everyBelow-at, everyBelow-all, every-at, every-all, first-set, first-set-here}
+use Rattle.scan.proofs.Scan.{and-left, and-right, is-false, true-not-false, allOf-at, everyBelow-at, everyBelow-all, every-at, every-all, first-set, first-set-here}
 use Rattle.device.proofs.Sizes.{order-true, order-is}
 use Rattle.device.proofs.Device.{holds-own, holds-one, free-holds, slot-stays}
 

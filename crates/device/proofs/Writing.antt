@@ -23,12 +23,12 @@ use Rattle.media.specs.Geometry.{files, pageBytes, fileBytes, mediaBytes, pageS
 use Rattle.media.specs.Write.{byteAt, Media}
 use Rattle.media.proofs.Geometry.{file-end, page-end}
 use Rattle.device.specs.declared.Slot.{Slot}
-use Rattle.device.specs.Scan.{firstIndex}
+use Rattle.scan.specs.Scan.{firstIndex}
 use Rattle.device.specs.Device.{Device, slotCount, framesBytes, frameStart, freeSlot, isFree, holds, slotOf, isCached, firstFree, logicalAt, floorAt, deviceOf, withLogical}
 use Rattle.device.specs.Current.{frameByte, currentAt}
 use Rattle.device.specs.Admission.{Result, give, fileTests}
 use Rattle.device.specs.Writing.{hasSlot, blankPage, filledPage, cachePage, patchPage, putPage, Written, andMore, putPages, grown, hasRoom, write}
-use Rattle.device.proofs.Scan.{first-set, first-set-here}
+use Rattle.scan.proofs.Scan.{first-set, first-set-here}
 use Rattle.device.proofs.Device.{holds-one, free-holds, slots-apart, first-free-was-free, free-apart, frame-other, Kept, kept-all, kept-trans}
 use Rattle.device.proofs.Current.{current-cached, current-media, current-zero, current-same}
 use Rattle.device.proofs.Admission.{Admitted, admit-by, file-changeless, file-admitted, admit-refused, admit-passed}

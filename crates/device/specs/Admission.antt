@@ -9,7 +9,7 @@ use Rattle.answer.specs.Admission.{Test, test}
 use Rattle.media.specs.Geometry.{files, fileBytes, mediaBytes}
 use Rattle.media.specs.Write.{Media}
 use Rattle.device.specs.declared.CacheState.{CacheState}
-use Rattle.device.specs.Scan.{every}
+use Rattle.scan.specs.Scan.{every}
 use Rattle.device.specs.Device.{Device, framesBytes}
 use Rattle.device.specs.Sound.{isSound}
 

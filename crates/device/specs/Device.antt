@@ -9,7 +9,7 @@ use Rattle.media.specs.Geometry.{files, pageBytes}
 use Rattle.media.specs.Write.{Media}
 use Rattle.device.specs.declared.Slot.{Slot}
 use Rattle.device.specs.declared.CacheState.{CacheState}
-use Rattle.device.specs.Scan.{firstIndex}
+use Rattle.scan.specs.Scan.{firstIndex}
 
 pub record Device : Type 0 where
   pub media : Media

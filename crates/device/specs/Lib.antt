@@ -1,4 +1,3 @@
-pub mod Scan
 pub mod Device
 pub mod Sizes
 pub mod Sound

@@ -7,7 +7,7 @@ use Rattle.memory.specs.Bytes.{part}
 use Rattle.media.specs.Geometry.{files, fileBytes, fileStart}
 use Rattle.media.specs.Write.{Media, MediaWrite, sizeAt}
 use Rattle.media.specs.Write.MediaWrite.{trim}
-use Rattle.device.specs.Scan.{every}
+use Rattle.scan.specs.Scan.{every}
 use Rattle.device.specs.Device.{Device, downState, mountedState}
 use Rattle.device.specs.Admission.{Result, admit, mediaShape, mountTests}
 use Rattle.device.specs.Plan.{writeIf, underBudget}

@@ -6,7 +6,7 @@ use lib.Dec.{leb}
 use Rattle.answer.specs.Coded.{Coded, done, BOOKS, RANGE}
 use Rattle.answer.specs.Admission.{Test, test, firstRefusal, ifDone}
 use Rattle.device.specs.declared.FileSizes.{FileSizes}
-use Rattle.device.specs.Scan.{allOf}
+use Rattle.scan.specs.Scan.{allOf}
 
 -- floor ≤ logical ≤ the greatest file size, and floor ≤ stored
 abbrev pub orderTests : ℕ → FileSizes → List Bool

@@ -8,7 +8,7 @@ use Rattle.media.specs.Geometry.{files, fileBytes}
 use Rattle.device.specs.declared.Slot.{Slot}
 use Rattle.device.specs.declared.CacheState.{CacheState}
 use Rattle.device.specs.declared.FileSizes.{FileSizes}
-use Rattle.device.specs.Scan.{allOf, every, everyBelow, firstIndex}
+use Rattle.scan.specs.Scan.{allOf, every, everyBelow, firstIndex}
 use Rattle.device.specs.Device.{Device, slotCount, freeSlot, isFree, holds}
 use Rattle.device.specs.Sizes.{inOrder}
 

@@ -3,7 +3,7 @@ use mathlib.Core.Path.{_≡_, refl, sym, ap, _∙_}
 use mathlib.Core.List.{List, [], _∷_, _++_}
 use Prim.Native.Nat.{ℕ, zero, suc, _+_, _-_, _<_, _≤_, min}
 use native.Mathlib.Omega.{arith}
-use native.Mathlib.Nat.{not-suc-le-zero, le-of-suc-le-suc, zero-add, suc-add, sub-zero, suc-sub-suc}
+use native.Mathlib.Nat.{not-suc-le-zero, le-of-suc-le-suc, zero-add, suc-add, add-suc, sub-zero, suc-sub-suc}
 use native.Mathlib.Numerals.{add-one}
 use lib.ListN.{length, getD, set, take, drop, length-take, length-drop, length-replicate}
 use lib.Seq.{take-nil, drop-nil, drop-drop, getD-take, getD-drop}
@@ -98,10 +98,23 @@ overwrite-cut (x ∷ xs) zero (y ∷ ys) h =
     rw zero-add (ap (λ (l : List ℕ). y ∷ l) (rw zero-add at (overwrite-cut xs zero ys (omega arith))))
 
 -- one list after another
+pub overwrite-join-at : (xs : List ℕ) (a : ℕ) (ys zs : List ℕ) → overwrite xs a (ys ++ zs) ≡ overwrite (overwrite xs a ys) (a + length ys) zs
+overwrite-join-at [] a ys zs = refl
+overwrite-join-at (x ∷ xs) (suc a) ys zs = rw suc-add (ap (λ (l : List ℕ). x ∷ l) (overwrite-join-at xs a ys zs))
+overwrite-join-at (x ∷ xs) zero [] zs = refl
+overwrite-join-at (x ∷ xs) zero (y ∷ ys) zs = rw add-suc (ap (λ (l : List ℕ). y ∷ l) (overwrite-join-at xs zero ys zs))
+
 pub overwrite-join : (xs ys zs : List ℕ) → overwrite xs 0 (ys ++ zs) ≡ overwrite (overwrite xs 0 ys) (length ys) zs
-overwrite-join [] ys zs = refl
-overwrite-join (x ∷ xs) [] zs = refl
-overwrite-join (x ∷ xs) (y ∷ ys) zs = ap (λ l. y ∷ l) (overwrite-join xs ys zs)
+overwrite-join xs ys zs = rw zero-add at (overwrite-join-at xs 0 ys zs)
+
+-- a list of one byte, and the first byte of any
+pub overwrite-one : (xs : List ℕ) (a b : ℕ) → overwrite xs a (b ∷ []) ≡ set xs a b
+overwrite-one [] a b = refl
+overwrite-one (x ∷ xs) (suc a) b = ap (λ (l : List ℕ). x ∷ l) (overwrite-one xs a b)
+overwrite-one (x ∷ xs) zero b = ap (λ (l : List ℕ). b ∷ l) (overwrite-none xs 0)
+
+pub overwrite-first : (xs : List ℕ) (a b : ℕ) (ys : List ℕ) → overwrite xs a (b ∷ ys) ≡ overwrite (set xs a b) (a + 1) ys
+overwrite-first xs a b ys = overwrite-join-at xs a (b ∷ []) ys ∙ rw overwrite-one
 
 -- zeros after what is laid over the front
 pub overwrite-pad : (xs ys : List ℕ) (n : ℕ) → n ≡ min (length xs) (length ys) → overwrite (overwrite xs 0 ys) n (zeros (length xs - n)) ≡ overwrite (zeros (length xs)) 0 ys

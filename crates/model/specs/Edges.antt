@@ -9,7 +9,7 @@ use Rattle.answer.specs.Coded.{Coded, done, RANGE, CUT}
 use Rattle.memory.specs.Bytes.{zeros}
 use Rattle.media.specs.Geometry.{files, pagesPerFile, fileBytes, mediaBytes}
 use Rattle.media.specs.Write.{mediaOf}
-use Rattle.device.specs.Scan.{every}
+use Rattle.scan.specs.Scan.{every}
 use Rattle.device.specs.Device.{Device, deviceOf, framesBytes, logicalAt, downState, mountedState}
 use Rattle.device.specs.Admission.{give}
 use Rattle.device.specs.Mounting as Mounting

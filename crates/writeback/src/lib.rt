@@ -17,7 +17,7 @@ ghost use Rattle.memory.specs.Bytes.{part};
 ghost use Rattle.media.specs.Geometry.{files, pagesPerFile, pageBytes, fileBytes, mediaBytes};
 ghost use Rattle.media.specs.Write.{Media, mediaOf, sizeAt, apply};
 ghost use Rattle.media.specs.Write.MediaWrite.{page, trim};
-ghost use Rattle.device.specs.Scan.{every};
+ghost use Rattle.scan.specs.Scan.{every};
 ghost use Rattle.device.specs.Device.{deviceOf, slotCount, framesBytes, frameStart};
 ghost use Rattle.device.specs.Admission.{give};
 ghost use Rattle.device.specs.Plan.{writeIf, budgeted, Spent};

@@ -3,7 +3,7 @@ use Prim.Native.Nat.{_<_, _≤_}
 use native.Mathlib.Omega.{arith}
 use borrow.Author.Tests.{lt-ltb, le-ltb}
 use borrow.Author.Needs.{needs}
-use Rattle.device.specs.Scan.{firstIndex}
+use Rattle.scan.specs.Scan.{firstIndex}
 use Rattle.device.specs.Device.{slotCount, holds}
 use Rattle.cache.proofs.has_slot.Statement.{statement}
 use Rattle.cache.proofs.has_slot.Tie as tie

@@ -6,9 +6,9 @@ use native.Mathlib.Omega.{arith}
 use lib.ListN.{length}
 use borrow.Author.Needs.{needs}
 use Rattle.media.specs.Write.{mediaOf}
-use Rattle.device.specs.Scan.{firstIndex}
+use Rattle.scan.specs.Scan.{firstIndex}
 use Rattle.device.specs.Device.{deviceOf, slotCount, isFree, holds}
-use Rattle.device.proofs.Loops.{length-mapped}
+use Rattle.scan.proofs.Loops.{length-mapped}
 use Rattle.device.proofs.Writing.{put-cached-in, put-new-in, free-left}
 use Rattle.cache.proofs.put_page.Statement.{statement}
 use Rattle.cache.proofs.put_page.Tie as tie

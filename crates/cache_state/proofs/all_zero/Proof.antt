@@ -4,7 +4,7 @@ use native.Mathlib.Omega.{arith}
 use lib.Dec.{eqb}
 use borrow.Author.Needs.{needs}
 use borrow.Author.Tests.{eq-eqb, ne-eqb}
-use Rattle.device.proofs.Loops.{Checked, checked-none, checked-stop, checked-next, checked-end}
+use Rattle.scan.proofs.Loops.{Checked, checked-none, checked-stop, checked-next, checked-end}
 use Rattle.cache_state.proofs.all_zero.Statement.{statement}
 use Rattle.cache_state.proofs.all_zero.Tie as tie
 

@@ -6,7 +6,7 @@ use borrow.Author.Needs.{needs}
 use Rattle.media.specs.Geometry.{fileBytes}
 use Rattle.device.specs.Sizes.{inOrder}
 use Rattle.device.specs.Sound.{sizesIn}
-use Rattle.device.proofs.Loops.{Below, below-none, below-stop, below-next, below-end}
+use Rattle.scan.proofs.Loops.{Below, below-none, below-stop, below-next, below-end}
 use Rattle.cache_state.proofs.files_in_order.Statement.{statement}
 use Rattle.cache_state.proofs.files_in_order.Tie as tie
 

@@ -5,7 +5,7 @@ use native.Mathlib.Omega.{arith}
 use lib.ListN.{length}
 use borrow.Author.Needs.{needs}
 use Rattle.device.specs.Device.{slotCount, isFree, freeSlot}
-use Rattle.device.proofs.Loops.{length-mapped, Searched, searched-none, searched-here, searched-next, searched-end}
+use Rattle.scan.proofs.Loops.{length-mapped, Searched, searched-none, searched-here, searched-next, searched-end}
 use Rattle.cache_state.proofs.first_free.Statement.{statement}
 use Rattle.cache_state.proofs.first_free.Tie as tie
 

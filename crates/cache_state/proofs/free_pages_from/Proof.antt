@@ -8,7 +8,7 @@ use borrow.Author.Needs.{needs}
 use Rattle.device.specs.declared.Slot.{Slot}
 use Rattle.device.specs.Device.{slotCount, freeWhere, freeSlot, withSlots}
 use Rattle.device.specs.Truncating.{pagesFrom}
-use Rattle.device.proofs.Loops.{length-mapped, map-more, map-done}
+use Rattle.scan.proofs.Loops.{length-mapped, map-more, map-done}
 use Rattle.cache_state.proofs.free_pages_from.Statement.{statement}
 use Rattle.cache_state.proofs.free_pages_from.Tie as tie
 

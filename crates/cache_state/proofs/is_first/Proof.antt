@@ -5,9 +5,9 @@ use native.Mathlib.Omega.{arith}
 use lib.ListN.{length}
 use borrow.Author.Tests.{eq-eqb, ne-eqb}
 use borrow.Author.Needs.{needs}
-use Rattle.device.specs.Scan.{firstIndex}
+use Rattle.scan.specs.Scan.{firstIndex}
 use Rattle.device.specs.Device.{slotCount, holds, freeSlot}
-use Rattle.device.proofs.Loops.{length-mapped, Searched, searched-none, searched-here, searched-next}
+use Rattle.scan.proofs.Loops.{length-mapped, Searched, searched-none, searched-here, searched-next}
 use Rattle.cache_state.proofs.is_first.Statement.{statement}
 use Rattle.cache_state.proofs.is_first.Tie as tie
 

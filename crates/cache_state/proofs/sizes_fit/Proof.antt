@@ -5,7 +5,7 @@ use lib.Dec.{leb}
 use lib.ListN.{length}
 use borrow.Author.Needs.{needs}
 use borrow.Author.Tests.{le-leb, lt-leb}
-use Rattle.device.proofs.Loops.{Checked, checked-none, checked-stop, checked-next, checked-end}
+use Rattle.scan.proofs.Loops.{Checked, checked-none, checked-stop, checked-next, checked-end}
 use Rattle.cache_state.proofs.sizes_fit.Statement.{statement}
 use Rattle.cache_state.proofs.sizes_fit.Tie as tie
 

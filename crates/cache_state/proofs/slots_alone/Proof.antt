@@ -5,7 +5,7 @@ use native.Mathlib.Omega.{arith}
 use borrow.Author.Needs.{needs}
 use Rattle.device.specs.Device.{slotCount}
 use Rattle.device.specs.Sound.{holdsAlone}
-use Rattle.device.proofs.Loops.{Below, below-none, below-stop, below-next, below-end}
+use Rattle.scan.proofs.Loops.{Below, below-none, below-stop, below-next, below-end}
 use Rattle.cache_state.proofs.slots_alone.Statement.{statement}
 use Rattle.cache_state.proofs.slots_alone.Tie as tie
 

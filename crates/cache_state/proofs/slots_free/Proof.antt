@@ -5,7 +5,7 @@ use native.Mathlib.Omega.{arith}
 use lib.ListN.{length}
 use borrow.Author.Needs.{needs}
 use Rattle.device.specs.Device.{slotCount, freeSlot, isFree}
-use Rattle.device.proofs.Loops.{length-mapped, Checked, checked-none, checked-stop, checked-next, checked-end}
+use Rattle.scan.proofs.Loops.{length-mapped, Checked, checked-none, checked-stop, checked-next, checked-end}
 use Rattle.cache_state.proofs.slots_free.Statement.{statement}
 use Rattle.cache_state.proofs.slots_free.Tie as tie
 

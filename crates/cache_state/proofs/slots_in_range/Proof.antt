@@ -6,7 +6,7 @@ use lib.ListN.{length}
 use borrow.Author.Needs.{needs}
 use Rattle.device.specs.Sound.{inRange}
 use Rattle.device.specs.Device.{slotCount, freeSlot}
-use Rattle.device.proofs.Loops.{length-mapped, Checked, checked-none, checked-stop, checked-next, checked-end}
+use Rattle.scan.proofs.Loops.{length-mapped, Checked, checked-none, checked-stop, checked-next, checked-end}
 use Rattle.cache_state.proofs.slots_in_range.Statement.{statement}
 use Rattle.cache_state.proofs.slots_in_range.Tie as tie
 

@@ -6,7 +6,7 @@ use lib.ListN.{length}
 use lib.Dec.{eqb}
 use borrow.Author.Needs.{needs}
 use borrow.Author.Tests.{eq-eqb, ne-eqb}
-use Rattle.device.proofs.Loops.{Flagged, flagged-none, flagged-fails, flagged-next, flagged-end}
+use Rattle.scan.proofs.Loops.{Flagged, flagged-none, flagged-fails, flagged-next, flagged-end}
 use Rattle.writeback.proofs.is_zero.Statement.{statement}
 use Rattle.writeback.proofs.is_zero.Tie as tie
 

@@ -7,7 +7,7 @@ use lib.Dec.{eqb}
 use borrow.Author.Needs.{needs}
 use Rattle.memory.specs.Bytes.{part}
 use Rattle.media.specs.Geometry.{pagesPerFile, fileBytes, fileStart}
-use Rattle.device.specs.Scan.{every}
+use Rattle.scan.specs.Scan.{every}
 use Rattle.device.specs.Mounting.{nonzeroFrom}
 use Rattle.writeback.proofs.nonzero_from.Statement.{statement}
 use Rattle.writeback.proofs.nonzero_from.Tie as tie

@@ -8,8 +8,8 @@ use native.Mathlib.Omega.{arith}
 use native.Mathlib.Numerals.{add-one}
 use lib.ListN.{length, getD, set, drop, drop-of-length-le, take}
 use lib.Seq.{drop-cons, take-all}
-use Rattle.device.specs.Scan.{every, everyBelow, firstIndex}
-use Rattle.device.proofs.Scan.{is-false, true-not-false, everyBelow-at}
+use Rattle.scan.specs.Scan.{every, everyBelow, firstIndex}
+use Rattle.scan.proofs.Scan.{is-false, true-not-false, everyBelow-at}
 
 pub length-mapped : (X Y : Type 0) (f : X → Y) (l : List X) (n : ℕ) → length (map f l) ≡ n → length l ≡ n
 length-mapped X Y f [] n e = e

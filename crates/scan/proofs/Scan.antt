@@ -8,7 +8,7 @@ use native.Mathlib.Omega.{arith}
 use lib.ListN.{length, getD, set}
 use borrow.Table.Steps.{cases}
 use Rattle.memory.proofs.Cases.{split-eq}
-use Rattle.device.specs.Scan.{allOf, every, everyBelow, firstIndex}
+use Rattle.scan.specs.Scan.{allOf, every, everyBelow, firstIndex}
 
 -- ---- both, and one
 
@@ -67,6 +67,10 @@ module _ {A : Type 0} (t : A → Bool) where
       and-both (t x) (every t xs) (h 0 (omega arith)) (every-all xs d (λ k l. h (suc k) (suc-le-suc l)))
 
   -- ---- the first that passes
+
+  pub first-le : (xs : List A) → firstIndex t xs ≤ length xs
+  first-le [] = omega arith
+  first-le (x ∷ xs) = cases (t x) (λ e. rw e (omega arith)) (λ e. rw e (suc-le-suc (first-le xs)))
 
   pub first-passes : (xs : List A) (d : A) → firstIndex t xs < length xs → t (getD xs (firstIndex t xs) d) ≡ true
   first-passes [] d h = absurd (not-suc-le-zero h)

@@ -1,0 +1,138 @@
+-- Laws of printed numbers, bytes and lines: their digits, how many there are, and how they are laid over a buffer.
+use mathlib.Core.Path.{_≡_, refl, sym, ap, _∙_}
+use mathlib.Core.List.{List, [], _∷_, _++_}
+use Prim.Native.Nat.{ℕ, zero, suc, _+_, _-_, _*_, _/_, _%_, _^_, _≤_, _<_}
+use native.Mathlib.Omega.{arith}
+use native.Mathlib.Nat.{not-suc-le-zero, pow-suc}
+use native.Mathlib.Numerals.{add-one}
+use lib.Dec.{ltb}
+use lib.ListN.{length, getD, set, take, length-append, length-take}
+use lib.Seq.{take-suc}
+use borrow.Author.Tests.{lt-ltb, le-ltb, le-leb, lt-leb, ltb-true, ltb-false}
+use borrow.Table.Steps.{cases}
+use Rattle.answer.specs.Coded.{Coded, done, SHAPE}
+use Rattle.memory.specs.Bytes.{overwrite}
+use Rattle.memory.proofs.Bytes.{overwrite-none, overwrite-join-at, overwrite-one, overwrite-first}
+use Rattle.session_line.specs.Grammar.{valueFrom, value, comma, LF}
+use Rattle.session_line.specs.Reply.{digitsIn, decimal, hexDigit, hex, replyLine, printAnswer, printed}
+
+-- ---- decimal digits
+
+-- any number above n bounds its digits
+digits-same : (k j n : ℕ) → n < k → n < j → digitsIn k n ≡ digitsIn j n
+digits-same zero j n h l = absurd (not-suc-le-zero h)
+digits-same (suc k) zero n h l = absurd (not-suc-le-zero l)
+digits-same (suc k) (suc j) n h l =
+    cases (ltb n 10)
+    (λ e. rw e)
+    (λ e.
+    let t = ltb-false n 10 e in
+    rw (e, digits-same k j (n / 10) (omega arith) (omega arith)))
+
+pub decimal-small : (n : ℕ) → n < 10 → decimal n ≡ (48 + n) ∷ []
+unfolding decimal
+decimal-small n h = rw (lt-ltb n 10 h)
+
+pub decimal-more : (n : ℕ) → 10 ≤ n → decimal n ≡ decimal (n / 10) ++ ((48 + n % 10) ∷ [])
+unfolding decimal
+decimal-more n h = rw (le-ltb n 10 h, digits-same n (suc (n / 10)) (n / 10) (omega arith) (omega arith))
+
+pub length-small : (n : ℕ) → n < 10 → length (decimal n) ≡ 1
+length-small n h = ap length (decimal-small n h)
+
+pub length-more : (n : ℕ) → 10 ≤ n → length (decimal n) ≡ length (decimal (n / 10)) + 1
+length-more n h = ap length (decimal-more n h) ∙ simp length-append
+
+pub decimal-length : (n k : ℕ) → n < 10 ^ k → 1 ≤ k → length (decimal n) ≤ k
+decimal-length n zero h l = absurd (not-suc-le-zero l)
+decimal-length n (suc zero) h l = omega (arith, length-small n (omega arith))
+decimal-length n (suc (suc k)) h l =
+    cases (ltb n 10)
+    (λ e. omega (arith, length-small n (ltb-true n 10 e)))
+    (λ e.
+    let t = ltb-false n 10 e in
+    let q = rw (pow-suc 10 (suc k)) at h in
+    omega (arith, length-more n t, decimal-length (n / 10) (suc k) (omega arith) (omega arith)))
+
+-- a number that fits a usize has at most 20 digits
+pub decimal-fits : (n : ℕ) → n < 2 ^ 64 → length (decimal n) ≤ 20
+decimal-fits n h = decimal-length n 20 (omega arith) (omega arith)
+
+-- the digits are laid over a list from the first to the last
+module _ (xs : List ℕ) (a n : ℕ) where
+  pub put-small : n < 10 → set xs a (48 + n) ≡ overwrite xs a (decimal n)
+  put-small h = rw (decimal-small n h, overwrite-one)
+
+  pub put-more : 10 ≤ n → set (overwrite xs a (decimal (n / 10))) (a + length (decimal (n / 10))) (48 + n % 10) ≡ overwrite xs a (decimal n)
+  put-more h = rw (decimal-more n h, overwrite-join-at, overwrite-one)
+
+-- reading a printed number gives it back
+value-join : (m : ℕ) (xs : List ℕ) (c : ℕ) → valueFrom m (xs ++ (c ∷ [])) ≡ 10 * valueFrom m xs + (c - 48)
+value-join m [] c = refl
+value-join m (x ∷ xs) c = value-join (10 * m + (x - 48)) xs c
+
+value-digits : (k n : ℕ) → n < k → value (digitsIn k n) ≡ n
+value-digits zero n h = absurd (not-suc-le-zero h)
+value-digits (suc k) n h =
+    cases (ltb n 10)
+    (λ e. rw e (omega arith))
+    (λ e.
+    let t = ltb-false n 10 e in
+    let q : value (digitsIn k (n / 10)) ≡ n / 10 = value-digits k (n / 10) (omega arith) in
+    rw (e, value-join, q) (omega arith))
+
+pub value-decimal : (n : ℕ) → value (decimal n) ≡ n
+unfolding decimal
+value-decimal n = value-digits (suc n) n (omega arith)
+
+-- ---- hexadecimal digits
+
+pub hex-length : (bytes : List ℕ) → length (hex bytes) ≡ 2 * length bytes
+hex-length [] = refl
+hex-length (b ∷ bs) = omega (arith, hex-length bs)
+
+pub hex-join : (xs ys : List ℕ) → hex (xs ++ ys) ≡ hex xs ++ hex ys
+hex-join [] ys = refl
+hex-join (x ∷ xs) ys = ap (λ (l : List ℕ). hexDigit (x / 16) ∷ hexDigit (x % 16) ∷ l) (hex-join xs ys)
+
+-- one byte more
+pub hex-next : (output : List ℕ) (at : ℕ) (bytes : List ℕ) (i : ℕ) → i < length bytes
+    → set (set (overwrite output at (hex (take i bytes))) (at + 2 * i) (hexDigit (getD bytes i 0 / 16))) (at + 2 * i + 1) (hexDigit (getD bytes i 0 % 16))
+    ≡ overwrite output at (hex (take (i + 1) bytes))
+hex-next output at bytes i h =
+    let l : length (hex (take i bytes)) ≡ 2 * i = hex-length (take i bytes) ∙ simp length-take (omega arith) in
+    rw (add-one i, take-suc bytes i 0 h, hex-join, overwrite-join-at, l, overwrite-first, overwrite-one)
+
+-- ---- lines
+
+pub reply-length : (a : Coded) (bytes : List ℕ) → length (replyLine a bytes) ≡ length (decimal (a .number)) + length (decimal (a .count)) + 2 * length bytes + 3
+unfolding replyLine
+reply-length a bytes = simp (length-append, hex-length) (omega arith)
+
+-- a list, a byte after it, and the rest
+overwrite-then : (xs : List ℕ) (at : ℕ) (ys : List ℕ) (b : ℕ) (zs : List ℕ) (end : ℕ) → end ≡ at + length ys
+    → overwrite xs at (ys ++ (b ∷ zs)) ≡ overwrite (set (overwrite xs at ys) end b) (end + 1) zs
+overwrite-then xs at ys b zs end h = rw h (overwrite-join-at xs at ys (b ∷ zs) ∙ overwrite-first (overwrite xs at ys) (at + length ys) b zs)
+
+-- a line is laid over the front of a list part by part
+pub reply-put : (a : Coded) (bytes xs : List ℕ) (number count first second : ℕ) → number ≡ a .number → count ≡ a .count
+    → first ≡ 0 + length (decimal number)
+    → second ≡ first + 1 + length (decimal count)
+    → set (overwrite (set (overwrite (set (overwrite xs 0 (decimal number)) first comma) (first + 1) (decimal count)) second comma) (second + 1) (hex bytes)) (second + 1 + 2 * length bytes) LF
+    ≡ overwrite xs 0 (replyLine a bytes)
+unfolding replyLine
+reply-put a bytes xs number count first second n c h k =
+    let ys = set (overwrite xs 0 (decimal number)) first comma in
+    let zs = set (overwrite ys (first + 1) (decimal count)) second comma in
+    rw (← n, ← c)
+    (sym
+    (overwrite-then xs 0 (decimal number) comma (decimal count ++ (comma ∷ hex bytes ++ (LF ∷ []))) first h
+    ∙ overwrite-then ys (first + 1) (decimal count) comma (hex bytes ++ (LF ∷ [])) second k
+    ∙ overwrite-then zs (second + 1) (hex bytes) LF [] (second + 1 + 2 * length bytes) (omega (arith, hex-length bytes))
+    ∙ overwrite-none _ _))
+
+pub print-fits : (text output : List ℕ) → length text ≤ length output → (printAnswer text output ≡ done (length text)) × (printed text output ≡ overwrite output 0 text)
+print-fits text output h = rw (le-leb _ _ h) (refl, refl)
+
+pub print-short : (text output : List ℕ) → length output < length text → (printAnswer text output ≡ SHAPE) × (printed text output ≡ output)
+print-short text output h = rw (lt-leb _ _ h) (refl, refl)

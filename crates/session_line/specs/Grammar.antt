@@ -1,0 +1,136 @@
+-- The lines of a session: document 01, "The session program".
+use Prim.Native.Nat.{ℕ, _+_, _-_, _*_}
+use mathlib.Core.Bool.{Bool, true, false, cond, _&&_}
+use mathlib.Core.List.{List, [], _∷_, map}
+use lib.Dec.{eqb, leb}
+use lib.ListN.{length, drop}
+use Rattle.scan.specs.Scan.{allOf, every}
+
+-- ---- texts between marks
+
+-- a byte before the first of these texts
+abbrev pub inFirst : ℕ → List (List ℕ) → List (List ℕ)
+inFirst c [] = (c ∷ []) ∷ []
+inFirst c (t ∷ ts) = (c ∷ t) ∷ ts
+
+-- bytes parted at a mark; an empty rest is the texts `last`
+abbrev pub partedAt : ℕ → List (List ℕ) → List ℕ → List (List ℕ)
+partedAt mark last [] = last
+partedAt mark last (c ∷ cs) = cond (eqb c mark) ([] ∷ partedAt mark last cs) (inFirst c (partedAt mark last cs))
+
+-- input lines are each ended by LF; the last may lack it, and nothing after a final LF is a line
+abbrev pub LF : ℕ
+LF = 10
+
+abbrev pub lines : List ℕ → List (List ℕ)
+lines = partedAt LF []
+
+-- fields are parted by commas, no quoting: a line with n commas has n + 1 fields
+abbrev pub comma : ℕ
+comma = 44
+
+abbrev pub fields : List ℕ → List (List ℕ)
+fields = partedAt comma ([] ∷ [])
+
+-- ---- numbers
+
+abbrev pub isDigit : ℕ → Bool
+isDigit c = leb 48 c && leb c 57
+
+-- the value of decimal digits, where those before them have value n
+abbrev pub valueFrom : ℕ → List ℕ → ℕ
+valueFrom n [] = n
+valueFrom n (c ∷ cs) = valueFrom (10 * n + (c - 48)) cs
+
+abbrev pub value : List ℕ → ℕ
+value = valueFrom 0
+
+-- 1 to 5 digits, whose value is at most the limit
+unfoldable pub isNumber : ℕ → List ℕ → Bool
+isNumber limit text = allOf (leb 1 (length text) ∷ leb (length text) 5 ∷ every isDigit text ∷ leb (value text) limit ∷ [])
+
+-- ---- forms
+
+-- a letter, and the greatest value of each number after it
+pub record Form : Type 0 where
+  pub letter : ℕ
+  pub limits : List ℕ
+
+abbrev pub form : ℕ → List ℕ → Form
+form letter limits = record { letter = letter; limits = limits }
+
+-- the letters in ASCII
+abbrev pub F : ℕ
+F = 70
+
+abbrev pub M : ℕ
+M = 77
+
+abbrev pub W : ℕ
+W = 87
+
+abbrev pub T : ℕ
+T = 84
+
+abbrev pub S : ℕ
+S = 83
+
+abbrev pub R : ℕ
+R = 82
+
+-- a number with no limit of its own
+abbrev pub most : ℕ
+most = 65535
+
+-- `F,grant` `M,grant` `W,file,position,length,byte` `T,file,n` `S,file,grant` `R,file,position,length`
+unfoldable pub forms : List Form
+forms =
+    form F (most ∷ [])
+    ∷ form M (most ∷ [])
+    ∷ form W (most ∷ most ∷ 4096 ∷ 255 ∷ [])
+    ∷ form T (most ∷ most ∷ [])
+    ∷ form S (most ∷ most ∷ [])
+    ∷ form R (most ∷ most ∷ 32 ∷ [])
+    ∷ []
+
+-- the text is this letter
+abbrev pub isLetter : ℕ → List ℕ → Bool
+isLetter letter [] = false
+isLetter letter (c ∷ []) = eqb c letter
+isLetter letter (c ∷ d ∷ ds) = false
+
+-- a field for each limit, a number within it
+abbrev pub numbersFit : List ℕ → List (List ℕ) → Bool
+numbersFit [] [] = true
+numbersFit [] (t ∷ ts) = false
+numbersFit (limit ∷ limits) [] = false
+numbersFit (limit ∷ limits) (t ∷ ts) = isNumber limit t && numbersFit limits ts
+
+abbrev pub hasForm : List (List ℕ) → Form → Bool
+hasForm [] f = false
+hasForm (t ∷ ts) f = isLetter (f .letter) t && numbersFit (f .limits) ts
+
+-- ---- what a line says
+
+-- the letter of its form, and its numbers
+pub record Command : Type 0 where
+  pub letter : ℕ
+  pub numbers : List ℕ
+
+abbrev pub command : ℕ → List ℕ → Command
+command letter numbers = record { letter = letter; numbers = numbers }
+
+-- a line that has none of the forms
+abbrev pub malformed : Command
+malformed = command 0 []
+
+abbrev pub byForms : List Form → List (List ℕ) → Command
+byForms [] ts = malformed
+byForms (f ∷ more) ts = cond (hasForm ts f) (command (f .letter) (map value (drop 1 ts))) (byForms more ts)
+
+-- a line over 40 bytes has none (an empty one has an empty field in place of its letter)
+abbrev pub greatestLine : ℕ
+greatestLine = 40
+
+unfoldable pub parse : List ℕ → Command
+parse line = cond (leb (length line) greatestLine) (byForms forms (fields line)) malformed

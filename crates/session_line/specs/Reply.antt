@@ -1,0 +1,42 @@
+-- The lines that a session prints: document 01, "The session program".
+use Prim.Native.Nat.{ℕ, zero, suc, _+_, _/_, _%_}
+use mathlib.Core.Bool.{cond}
+use mathlib.Core.List.{List, [], _∷_, _++_}
+use lib.Dec.{ltb, leb}
+use lib.ListN.{length}
+use Rattle.answer.specs.Coded.{Coded, done, SHAPE}
+use Rattle.answer.specs.Admission.{firstRefusal, ifDone, test}
+use Rattle.memory.specs.Bytes.{overwrite}
+use Rattle.session_line.specs.Grammar.{LF, comma}
+
+-- the decimal digits of n, with no zero before them; the first number is above n, and bounds the digits
+abbrev pub digitsIn : ℕ → ℕ → List ℕ
+digitsIn zero n = []
+digitsIn (suc k) n = cond (ltb n 10) ((48 + n) ∷ []) (digitsIn k (n / 10) ++ ((48 + n % 10) ∷ []))
+
+unfoldable pub decimal : ℕ → List ℕ
+decimal n = digitsIn (suc n) n
+
+-- lower-case hexadecimal, two digits for each byte
+abbrev pub hexDigit : ℕ → ℕ
+hexDigit d = cond (ltb d 10) (48 + d) (87 + d)
+
+abbrev pub hex : List ℕ → List ℕ
+hex [] = []
+hex (b ∷ bs) = hexDigit (b / 16) ∷ hexDigit (b % 16) ∷ hex bs
+
+-- the number of the answer, its count, and the bytes that were read
+unfoldable pub replyLine : Coded → List ℕ → List ℕ
+replyLine a bytes = decimal (a .number) ++ (comma ∷ decimal (a .count) ++ (comma ∷ hex bytes ++ (LF ∷ [])))
+
+-- a text printed at the front of a buffer, whose rest keeps its bytes: done with its length, or SHAPE where it does not fit
+abbrev pub printAnswer : List ℕ → List ℕ → Coded
+printAnswer text output = firstRefusal (test (leb (length text) (length output)) SHAPE ∷ []) (done (length text))
+
+abbrev pub printed : List ℕ → List ℕ → List ℕ
+printed text output = ifDone (printAnswer text output) (overwrite output 0 text) output
+
+-- `answer,count,bytes`
+unfoldable pub header : List ℕ
+header =
+    97 ∷ 110 ∷ 115 ∷ 119 ∷ 101 ∷ 114 ∷ comma ∷ 99 ∷ 111 ∷ 117 ∷ 110 ∷ 116 ∷ comma ∷ 98 ∷ 121 ∷ 116 ∷ 101 ∷ 115 ∷ LF ∷ []

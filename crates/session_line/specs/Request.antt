@@ -1,0 +1,14 @@
+-- The cases of the code's enum, by the letter and the numbers of document 01.
+use mathlib.Core.List.{[], _∷_}
+use Rattle.session_line.specs.declared.Request.{Request}
+use Rattle.session_line.specs.declared.Request.the-variants.{Format, Mount, Write, Truncate, Sync, Read, Malformed}
+use Rattle.session_line.specs.Grammar.{Command, command, malformed, F, M, W, T, S, R}
+
+abbrev pub spelled : Request → Command
+spelled (Format budget) = command F (budget ∷ [])
+spelled (Mount budget) = command M (budget ∷ [])
+spelled (Write file position length byte) = command W (file ∷ position ∷ length ∷ byte ∷ [])
+spelled (Truncate file n) = command T (file ∷ n ∷ [])
+spelled (Sync file budget) = command S (file ∷ budget ∷ [])
+spelled (Read file position length) = command R (file ∷ position ∷ length ∷ [])
+spelled Malformed = malformed

@@ -1,0 +1,3 @@
+pub mod Session
+pub mod Feeding
+pub mod Claims
