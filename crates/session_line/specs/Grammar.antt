@@ -1,4 +1,5 @@
 -- The lines of a session: document 01, "The session program".
+use Prim.Native.Char.{code}
 use Prim.Native.Nat.{ℕ, _+_, _-_, _*_}
 use mathlib.Core.Bool.{Bool, true, false, cond, _&&_}
 use mathlib.Core.List.{List, [], _∷_, map}
@@ -20,14 +21,14 @@ partedAt mark last (c ∷ cs) = cond (eqb c mark) ([] ∷ partedAt mark last cs)
 
 -- input lines are each ended by LF; the last may lack it, and nothing after a final LF is a line
 abbrev pub LF : ℕ
-LF = 10
+LF = code "\n"
 
 abbrev pub lines : List ℕ → List (List ℕ)
 lines = partedAt LF []
 
 -- fields are parted by commas, no quoting: a line with n commas has n + 1 fields
 abbrev pub comma : ℕ
-comma = 44
+comma = code ","
 
 abbrev pub fields : List ℕ → List (List ℕ)
 fields = partedAt comma ([] ∷ [])
@@ -35,12 +36,12 @@ fields = partedAt comma ([] ∷ [])
 -- ---- numbers
 
 abbrev pub isDigit : ℕ → Bool
-isDigit c = leb 48 c && leb c 57
+isDigit c = leb (code "0") c && leb c (code "9")
 
 -- the value of decimal digits, where those before them have value n
 abbrev pub valueFrom : ℕ → List ℕ → ℕ
 valueFrom n [] = n
-valueFrom n (c ∷ cs) = valueFrom (10 * n + (c - 48)) cs
+valueFrom n (c ∷ cs) = valueFrom (10 * n + (c - code "0")) cs
 
 abbrev pub value : List ℕ → ℕ
 value = valueFrom 0
@@ -59,24 +60,23 @@ pub record Form : Type 0 where
 abbrev pub form : ℕ → List ℕ → Form
 form letter limits = record { letter = letter; limits = limits }
 
--- the letters in ASCII
 abbrev pub F : ℕ
-F = 70
+F = code "F"
 
 abbrev pub M : ℕ
-M = 77
+M = code "M"
 
 abbrev pub W : ℕ
-W = 87
+W = code "W"
 
 abbrev pub T : ℕ
-T = 84
+T = code "T"
 
 abbrev pub S : ℕ
-S = 83
+S = code "S"
 
 abbrev pub R : ℕ
-R = 82
+R = code "R"
 
 -- a number with no limit of its own
 abbrev pub most : ℕ

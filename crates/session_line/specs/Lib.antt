@@ -1,3 +1,4 @@
+pub mod Ascii
 pub mod Grammar
 pub mod Request
 pub mod Reply

@@ -1,5 +1,6 @@
 -- The lines that a session prints: document 01, "The session program".
-use Prim.Native.Nat.{ℕ, zero, suc, _+_, _/_, _%_}
+use Prim.Native.Char.{code}
+use Prim.Native.Nat.{ℕ, zero, suc, _+_, _-_, _/_, _%_}
 use mathlib.Core.Bool.{cond}
 use mathlib.Core.List.{List, [], _∷_, _++_}
 use lib.Dec.{ltb, leb}
@@ -7,19 +8,20 @@ use lib.ListN.{length}
 use Rattle.answer.specs.Coded.{Coded, done, SHAPE}
 use Rattle.answer.specs.Admission.{firstRefusal, ifDone, test}
 use Rattle.memory.specs.Bytes.{overwrite}
+use Rattle.session_line.specs.Ascii.{ascii}
 use Rattle.session_line.specs.Grammar.{LF, comma}
 
 -- the decimal digits of n, with no zero before them; the first number is above n, and bounds the digits
 abbrev pub digitsIn : ℕ → ℕ → List ℕ
 digitsIn zero n = []
-digitsIn (suc k) n = cond (ltb n 10) ((48 + n) ∷ []) (digitsIn k (n / 10) ++ ((48 + n % 10) ∷ []))
+digitsIn (suc k) n = cond (ltb n 10) ((code "0" + n) ∷ []) (digitsIn k (n / 10) ++ ((code "0" + n % 10) ∷ []))
 
 unfoldable pub decimal : ℕ → List ℕ
 decimal n = digitsIn (suc n) n
 
 -- lower-case hexadecimal, two digits for each byte
 abbrev pub hexDigit : ℕ → ℕ
-hexDigit d = cond (ltb d 10) (48 + d) (87 + d)
+hexDigit d = cond (ltb d 10) (code "0" + d) (code "a" + (d - 10))
 
 abbrev pub hex : List ℕ → List ℕ
 hex [] = []
@@ -36,7 +38,5 @@ printAnswer text output = firstRefusal (test (leb (length text) (length output))
 abbrev pub printed : List ℕ → List ℕ → List ℕ
 printed text output = ifDone (printAnswer text output) (overwrite output 0 text) output
 
--- `answer,count,bytes`
 unfoldable pub header : List ℕ
-header =
-    97 ∷ 110 ∷ 115 ∷ 119 ∷ 101 ∷ 114 ∷ comma ∷ 99 ∷ 111 ∷ 117 ∷ 110 ∷ 116 ∷ comma ∷ 98 ∷ 121 ∷ 116 ∷ 101 ∷ 115 ∷ LF ∷ []
+header = ascii "answer,count,bytes\n"

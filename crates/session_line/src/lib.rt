@@ -64,7 +64,7 @@ fn value(text: &[u8]) -> usize
     let mut n = 0;
     let mut i = 0;
     while i < text.len() {
-        n = 10 * n + (wide(text[i]) - 48);
+        n = 10 * n + wide(text[i] - b'0');
         i += 1;
     }
     n
@@ -256,11 +256,11 @@ fn put_decimal(output: &mut [u8], at: usize, n: usize) -> usize
     ensures { λ r. ⌜ (now (output .exit) ≡ overwrite (now (output .entry)) at (decimal n)) × (r ≡ at + length (decimal n)) ⌝ }
 {
     if n < 10 {
-        output[at] = 48 + n as u8;
+        output[at] = b'0' + n as u8;
         return at + 1;
     }
     let end = put_decimal(output, at, n / 10);
-    output[end] = 48 + (n % 10) as u8;
+    output[end] = b'0' + (n % 10) as u8;
     end + 1
 }
 
@@ -268,7 +268,7 @@ fn hex_digit(d: u8) -> u8
     requires { ⌜ d < 16 ⌝ }
     ensures { λ r. ⌜ r ≡ hexDigit d ⌝ }
 {
-    if d < 10 { 48 + d } else { 87 + d }
+    if d < 10 { b'0' + d } else { b'a' + (d - 10) }
 }
 
 // The bytes in hexadecimal are laid over the output from `at` on.

@@ -66,11 +66,17 @@ lastEnd p = cond (eqb (p .length) 0) [] (LF ∷ [])
 
 -- ---- the calls
 
--- the greatest length of a line that is printed
+-- the greatest length of a line that is printed: a read of 32 bytes
 abbrev pub replyBytes : ℕ
 replyBytes = 70
 
--- what the calls borrow
+-- one line: its text at the front of the output. SHAPE where the output has another length
+unfoldable pub runInto : ℕ → List ℕ → Device × List ℕ → Result (Device × List ℕ)
+runInto P line x =
+    let r : Ran = runLine P line (x .0) in
+    admit (test (eqb (length (x .1)) replyBytes) SHAPE ∷ []) x (give (done (length (text r))) (r .device, overwrite (x .1) 0 (text r)))
+
+-- what `feed` borrows
 pub record Desk : Type 0 where
   pub device : Device
   pub line : PartialLine
@@ -79,7 +85,7 @@ pub record Desk : Type 0 where
 abbrev pub desk : Device → PartialLine → List ℕ → Desk
 desk device line output = record { device = device; line = line; output = output }
 
--- a block of input; SHAPE where the output has less room than a line for each of its bytes
+-- a block of input. SHAPE where the output has less room than a line for each byte of it
 unfoldable pub feedBlock : ℕ → List ℕ → Desk → Result Desk
 feedBlock P input x =
     let y : Fed = feed P input (x .device) (x .line) in

@@ -1,3 +1,4 @@
 pub mod Session
 pub mod Feeding
+pub mod Steps
 pub mod Claims

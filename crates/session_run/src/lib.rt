@@ -1,5 +1,172 @@
-// Runs a session: its lines, one by one, on a device.
+// Runs a session on a device: a line at a time, or its input in blocks that may be cut anywhere.
+//
+// The media, the stored sizes and the page frames are borrowed; the cache state and the line that has not ended go in by value
+// and come back. Start with `start`, print `header`, hand each block to `feed`, and at the end of the input call `finish`.
+use cache::Answer;
+use cache::CacheState;
+use cache::Outcome;
+use cache::Refusal;
+use session_line::Request;
+ghost use mathlib.Core.Path.{_≡_};
+ghost use mathlib.Core.Bool.{true, false};
+ghost use Prim.Native.Nat.{_≤_};
+ghost use lib.ListN.{take, replicate};
+ghost use Rattle.answer.specs.Coded.{coded};
+ghost use Rattle.memory.specs.Bytes.{zeros};
+ghost use Rattle.media.specs.Geometry.{pagesPerFile};
+ghost use Rattle.media.specs.Write.{mediaOf};
+ghost use Rattle.device.specs.Device.{deviceOf};
+ghost use Rattle.device.specs.Admission.{give};
+ghost use Rattle.device.specs.Reading.{read};
+ghost use Rattle.device.specs.Writing.{write};
+ghost use Rattle.session_line.specs.Request.{spelled};
+ghost use Rattle.session_line.specs.Rest.{Within};
+ghost use Rattle.session_run.specs.Session.{run};
+ghost use Rattle.session_run.specs.Feeding.{runInto};
+ghost use Rattle.session_run.specs.Steps.{Made};
+
+// The greatest length of a line that is printed.
+pub const REPLY_BYTES: usize = 70;
+
+// As many first bytes of a line are kept: one more than a line with a form may have.
+pub const KEPT_BYTES: usize = 41;
+
+// The line that has not ended yet.
 pub struct PartialLine {
-    pub bytes: [u8; 41],
+    pub bytes: [u8; KEPT_BYTES],
     pub length: usize,
+}
+
+// A session between two blocks of its input.
+pub struct Session {
+    pub cache: CacheState,
+    pub line: PartialLine,
+}
+
+// What a block of input gives: as count the bytes that it printed, and the session after it.
+pub struct Fed {
+    pub answer: Answer,
+    pub session: Session,
+}
+
+// ---- one line
+
+// What the call of a line gave; the bytes to print are the first of `bytes`, as many as it counts, if it shows any.
+struct Call {
+    answer: Answer,
+    cache: CacheState,
+    shows: bool,
+    bytes: [u8; 32],
+}
+
+fn silent(outcome: Outcome) -> Call
+    ensures { λ r. ⌜ (r .answer ≡ outcome .answer) × (r .cache ≡ outcome .cache) × (r .shows ≡ false) ⌝ }
+{
+    let answer = outcome.answer;
+    let cache = outcome.cache;
+    Call { answer, cache, shows: false, bytes: [0; 32] }
+}
+
+// A write of bytes of one value.
+fn write_bytes(
+    media: &[u8],
+    sizes: &[u32],
+    frames: &mut [u8],
+    cache: CacheState,
+    file: usize,
+    position: usize,
+    length: usize,
+    byte: u8,
+) -> Outcome
+    requires { ⌜ length ≤ 4096 ⌝ }
+    ensures { λ r. ⌜ give (coded (r .answer)) (deviceOf (mediaOf (now (media .entry)) (now (sizes .entry))) (now (frames .exit)) (r .cache))
+        ≡ write pagesPerFile file position (replicate length byte) (deviceOf (mediaOf (now (media .entry)) (now (sizes .entry))) (now (frames .entry)) cache) ⌝ }
+{
+    let bytes = [byte; 4096];
+    cache::write(media, sizes, frames, cache, file, position, &bytes[..length])
+}
+
+// A read of at most 32 bytes.
+fn read_bytes(
+    media: &[u8],
+    sizes: &[u32],
+    frames: &[u8],
+    cache: CacheState,
+    file: usize,
+    position: usize,
+    length: usize,
+) -> Call
+    requires { ⌜ length ≤ 32 ⌝ }
+    ensures { λ r. ⌜ (give (coded (r .answer)) (take length (r .bytes))
+        ≡ read pagesPerFile file position (zeros length) (deviceOf (mediaOf (now (media .entry)) (now (sizes .entry))) (now (frames .entry)) cache))
+        × (r .cache ≡ cache) × (r .shows ≡ true) ⌝ }
+{
+    let mut bytes = [0u8; 32];
+    let answer = cache::read(media, sizes, frames, cache, file, position, &mut bytes[..length]);
+    Call { answer, cache, shows: true, bytes }
+}
+
+// The call that a line asks for.
+fn make(
+    media: &mut [u8],
+    sizes: &mut [u32],
+    frames: &mut [u8],
+    cache: CacheState,
+    request: Request,
+) -> Call
+    requires { ⌜ Within request ⌝ }
+    ensures { λ r. ⌜ Made (run pagesPerFile (spelled request) (deviceOf (mediaOf (now (media .entry)) (now (sizes .entry))) (now (frames .entry)) cache))
+        (coded (r .answer)) (r .shows) (r .bytes) (deviceOf (mediaOf (now (media .exit)) (now (sizes .exit))) (now (frames .exit)) (r .cache)) ⌝ }
+{
+    match request {
+        Request::Format(budget) => silent(cache::format(media, sizes, cache, budget)),
+        Request::Mount(budget) => silent(cache::mount(media, sizes, cache, budget)),
+        Request::Write(file, position, length, byte) => silent(write_bytes(
+            media, sizes, frames, cache, file, position, length, byte,
+        )),
+        Request::Truncate(file, n) => silent(cache::truncate(media, sizes, frames, cache, file, n)),
+        Request::Sync(file, budget) => silent(cache::sync(media, sizes, frames, cache, file, budget)),
+        Request::Read(file, position, length) => {
+            read_bytes(media, sizes, frames, cache, file, position, length)
+        }
+        Request::Malformed => silent(Outcome {
+            answer: Answer::Refused(Refusal::Line),
+            cache,
+        }),
+    }
+}
+
+// Runs one line, without its LF, and prints its answer at the front of the output, which has 70 bytes, or else it is SHAPE. The
+// count is the number of bytes printed; the rest of the output keeps its bytes.
+pub fn run_line(
+    media: &mut [u8],
+    sizes: &mut [u32],
+    frames: &mut [u8],
+    cache: CacheState,
+    line: &[u8],
+    output: &mut [u8],
+) -> Outcome
+    ensures { λ r. ⌜ give (coded (r .answer)) (deviceOf (mediaOf (now (media .exit)) (now (sizes .exit))) (now (frames .exit)) (r .cache), now (output .exit))
+        ≡ runInto pagesPerFile (now (line .entry)) (deviceOf (mediaOf (now (media .entry)) (now (sizes .entry))) (now (frames .entry)) cache, now (output .entry)) ⌝ }
+{
+    if output.len() == REPLY_BYTES {
+        let request = session_line::parse(line);
+        let made = make(media, sizes, frames, cache, request);
+        let answer = made.answer;
+        let bytes = made.bytes;
+        let mut shown = 0;
+        if made.shows {
+            shown = answer::count(answer);
+        }
+        let printed = session_line::print(answer, &bytes[..shown], output);
+        let state = made.cache;
+        return Outcome {
+            answer: printed,
+            cache: state,
+        };
+    }
+    Outcome {
+        answer: Answer::Refused(Refusal::Shape),
+        cache,
+    }
 }

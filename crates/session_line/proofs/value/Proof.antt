@@ -1,8 +1,8 @@
 -- `session_line::value` meets its contract: the digits before i have value n.
+use Prim.Native.Nat.{_-_}
 use native.Mathlib.Omega.{arith}
-use borrow.Author.Needs.{needs}
-use Prim.Native.Nat.{_≤_, _-_}
 use lib.ListN.{length}
+use borrow.Author.Needs.{needs}
 use Rattle.session_line.proofs.Grammar.{Valued, valued-none, valued-next, valued-end, valued-small, digit-at}
 use Rattle.session_line.proofs.value.Statement.{statement}
 use Rattle.session_line.proofs.value.Tie as tie
@@ -22,11 +22,11 @@ mul-n c = let b = valued-small _ _ _ (c .before .loop .inv) (omega arith) in ome
 shared-slice-read-wide : tie.Need-shared-slice-read-wide Inv-loop μ-loop
 shared-slice-read-wide c = search needs
 
+sub-wide : tie.Need-sub-wide Inv-loop μ-loop
+sub-wide c = let l = c .before .before in omega (arith, digit-at (l .before .before .args .text .now) (l .loop .i) (l .before .before .pre .1) (omega arith))
+
 wide-requires : tie.Need-wide-requires Inv-loop μ-loop
 wide-requires c κs = search needs
-
-sub-n : tie.Need-sub-n Inv-loop μ-loop
-sub-n c = let l = c .before .before .before in omega (arith, c .wide .ensures, digit-at (l .before .before .args .text .now) (l .loop .i) (l .before .before .pre .1) (omega arith))
 
 add-n : tie.Need-add-n Inv-loop μ-loop
 add-n c = let l = c .before .before .before in omega (arith, valued-small _ _ _ (l .loop .inv) (omega arith), c .wide .ensures, digit-at (l .before .before .args .text .now) (l .loop .i) (l .before .before .pre .1) (omega arith))
@@ -52,8 +52,8 @@ value-spec =
     loop-holds
     mul-n
     shared-slice-read-wide
+    sub-wide
     wide-requires
-    sub-n
     add-n
     add-i
     loop-less
