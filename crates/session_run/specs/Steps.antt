@@ -3,12 +3,20 @@ use Prim.Native.Nat.{ℕ, _≤_}
 use mathlib.Core.Path.{_≡_}
 use mathlib.Core.Bool.{Bool, true, cond}
 use mathlib.Core.List.{List, []}
-use lib.ListN.{length, take}
+use lib.ListN.{length, take, replicate}
 use Rattle.answer.specs.Coded.{Coded}
-use Rattle.memory.specs.Bytes.{overwrite}
+use Rattle.memory.specs.Bytes.{zeros, overwrite}
 use Rattle.device.specs.Device.{Device}
 use Rattle.session_run.specs.Session.{Ran}
 use Rattle.session_run.specs.Feeding.{replyBytes}
+
+-- as many bytes of one value as a line may write
+unfoldable pub sameBytes : ℕ → List ℕ
+sameBytes byte = replicate 4096 byte
+
+-- as many zeros as a line may read
+unfoldable pub noBytes : List ℕ
+noBytes = zeros 32
 
 -- a text of n bytes was printed at the front of a buffer
 pub record Printed (text before after : List ℕ) (n : ℕ) : Type 0 where

@@ -8,7 +8,7 @@ use cache::Outcome;
 use cache::Refusal;
 use session_line::Request;
 ghost use mathlib.Core.Path.{_≡_};
-ghost use mathlib.Core.Bool.{true, false};
+ghost use mathlib.Core.Bool.{true, false, cond};
 ghost use Prim.Native.Nat.{_≤_};
 ghost use lib.ListN.{take, replicate};
 ghost use Rattle.answer.specs.Coded.{coded};
@@ -23,7 +23,7 @@ ghost use Rattle.session_line.specs.Request.{spelled};
 ghost use Rattle.session_line.specs.Rest.{Within};
 ghost use Rattle.session_run.specs.Session.{run};
 ghost use Rattle.session_run.specs.Feeding.{runInto};
-ghost use Rattle.session_run.specs.Steps.{Made};
+ghost use Rattle.session_run.specs.Steps.{noBytes, sameBytes, Made};
 
 // The greatest length of a line that is printed.
 pub const REPLY_BYTES: usize = 70;
@@ -59,12 +59,26 @@ struct Call {
     bytes: [u8; 32],
 }
 
+// As many zeros as a line may read.
+fn no_bytes() -> [u8; 32]
+    ensures { λ r. ⌜ r ≡ noBytes ⌝ }
+{
+    [0; 32]
+}
+
 fn silent(outcome: Outcome) -> Call
     ensures { λ r. ⌜ (r .answer ≡ outcome .answer) × (r .cache ≡ outcome .cache) × (r .shows ≡ false) ⌝ }
 {
     let answer = outcome.answer;
     let cache = outcome.cache;
-    Call { answer, cache, shows: false, bytes: [0; 32] }
+    Call { answer, cache, shows: false, bytes: no_bytes() }
+}
+
+// As many bytes of one value as a line may write.
+fn same_bytes(byte: u8) -> [u8; 4096]
+    ensures { λ r. ⌜ r ≡ sameBytes byte ⌝ }
+{
+    [byte; 4096]
 }
 
 // A write of bytes of one value.
@@ -82,7 +96,7 @@ fn write_bytes(
     ensures { λ r. ⌜ give (coded (r .answer)) (deviceOf (mediaOf (now (media .entry)) (now (sizes .entry))) (now (frames .exit)) (r .cache))
         ≡ write pagesPerFile file position (replicate length byte) (deviceOf (mediaOf (now (media .entry)) (now (sizes .entry))) (now (frames .entry)) cache) ⌝ }
 {
-    let bytes = [byte; 4096];
+    let bytes = same_bytes(byte);
     cache::write(media, sizes, frames, cache, file, position, &bytes[..length])
 }
 
@@ -101,7 +115,7 @@ fn read_bytes(
         ≡ read pagesPerFile file position (zeros length) (deviceOf (mediaOf (now (media .entry)) (now (sizes .entry))) (now (frames .entry)) cache))
         × (r .cache ≡ cache) × (r .shows ≡ true) ⌝ }
 {
-    let mut bytes = [0u8; 32];
+    let mut bytes = no_bytes();
     let answer = cache::read(media, sizes, frames, cache, file, position, &mut bytes[..length]);
     Call { answer, cache, shows: true, bytes }
 }
@@ -136,6 +150,16 @@ fn make(
     }
 }
 
+// How many bytes are printed of a call that counts so many.
+fn shown(count: usize, shows: bool) -> usize
+    ensures { λ r. ⌜ r ≡ cond shows count 0 ⌝ }
+{
+    if shows {
+        return count;
+    }
+    0
+}
+
 // Runs one line, without its LF, and prints its answer at the front of the output, which has 70 bytes, or else it is SHAPE. The
 // count is the number of bytes printed; the rest of the output keeps its bytes.
 pub fn run_line(
@@ -154,11 +178,8 @@ pub fn run_line(
         let made = make(media, sizes, frames, cache, request);
         let answer = made.answer;
         let bytes = made.bytes;
-        let mut shown = 0;
-        if made.shows {
-            shown = answer::count(answer);
-        }
-        let printed = session_line::print(answer, &bytes[..shown], output);
+        let n = shown(answer::count(answer), made.shows);
+        let printed = session_line::print(answer, &bytes[..n], output);
         let state = made.cache;
         return Outcome {
             answer: printed,

@@ -1,26 +1,36 @@
+-- `session_run::read_bytes` meets its contract: the bytes are those of the read.
+use mathlib.Core.Path.{_≡_, refl, sym, ap, _∙_}
+use native.Mathlib.Omega.{arith}
+use lib.ListN.{length, take}
+use Rattle.device.specs.Admission.{give}
+use Rattle.session_run.specs.Steps.{noBytes}
+use Rattle.session_line.proofs.Grammar.{length-front}
+use Rattle.session_run.proofs.Steps.{take-none, length-none, take-front}
 use borrow.Author.Needs.{needs}
 use Rattle.session_run.proofs.read_bytes.Statement.{statement}
 use Rattle.session_run.proofs.read_bytes.Tie as tie
-use Rattle.session_run.proofs.read_bytes.Reads as reads
-use Rattle.session_run.proofs.read_bytes.Lts as lts
-use Rattle.cache.proofs.read.Reads as read-reads
 
--- src/lib.rt:105:75
+no-bytes-requires : tie.Need-no-bytes-requires
+no-bytes-requires c κs = search needs
+
 array-borrow-prefix-bytes : tie.Need-array-borrow-prefix-bytes
 array-borrow-prefix-bytes c = search needs
 
--- src/lib.rt:105:75
 slice-aggregate-read : tie.Need-slice-aggregate-read
-slice-aggregate-read c = ?
+slice-aggregate-read c = let a = c .before .before .before .before .before .args in rw (c .before .no-bytes .ensures) (sym (length-front (a .length) noBytes (omega (arith, length-none))))
 
--- src/lib.rt:105:9
 read-requires : tie.Need-read-requires
 read-requires c κs = search needs
 
--- src/lib.rt:90:1
 returns : tie.Need-returns
-returns c = ?
+returns c = let a = c .before .before .before .before .before .before .before .args in let z = c .before .before .before .no-bytes .ensures in (ap (give _) (take-front (a .length) _ _ (c .before .read .kept .1 .1 .1 .1 .1 .1 .0 ∙ rw z (length-front (a .length) noBytes (omega (arith, length-none))))) ∙ rw (z, take-none (a .length) (omega arith)) at (c .before .read .ensures), refl, refl)
 
 pub read-bytes-spec : {M : Type 1} → statement M
 read-bytes-spec =
-    tie.close (tie.spec array-borrow-prefix-bytes slice-aggregate-read read-requires returns)
+    tie.close
+    (tie.spec
+    no-bytes-requires
+    array-borrow-prefix-bytes
+    slice-aggregate-read
+    read-requires
+    returns)

@@ -1,31 +1,39 @@
+-- `session_run::write_bytes` meets its contract: the bytes are of one value.
+use mathlib.Core.Path.{_≡_, sym, ap, _∙_}
+use native.Mathlib.Omega.{arith}
+use lib.ListN.{length, take}
+use Rattle.session_run.specs.Steps.{sameBytes}
+use Rattle.session_line.proofs.Grammar.{length-front}
+use Rattle.session_run.proofs.Steps.{take-same, length-same}
 use borrow.Author.Needs.{needs}
 use Rattle.session_run.proofs.write_bytes.Statement.{statement}
 use Rattle.session_run.proofs.write_bytes.Tie as tie
-use Rattle.session_run.proofs.write_bytes.Reads as reads
-use Rattle.session_run.proofs.write_bytes.Lts as lts
-use Rattle.cache.proofs.write.Reads as write-reads
 
--- src/lib.rt:86:63
+same-bytes-requires : tie.Need-same-bytes-requires
+same-bytes-requires c κs = search needs
+
 array-share-prefix-bytes : tie.Need-array-share-prefix-bytes
 array-share-prefix-bytes c = search needs
 
--- src/lib.rt:86:63
 slice-aggregate-write : tie.Need-slice-aggregate-write
-slice-aggregate-write c = ?
+slice-aggregate-write c = let q = c .before .before in let a = c .before .before .before .before .before .before .args in rw (q .same-bytes .ensures) (sym (length-front (a .length) (sameBytes (a .byte)) (omega (arith, length-same (a .byte)))))
 
--- src/lib.rt:86:5
 write-requires : tie.Need-write-requires
 write-requires c κs = search needs
 
--- src/lib.rt:71:1
 same-length : tie.Need-same-length
 same-length c = search needs
 
--- src/lib.rt:71:1
 returns : tie.Need-returns
-returns c = ?
+returns c = let a = c .before .before .before .before .before .before .before .before .before .args in rw (c .before .before .before .before .before .same-bytes .ensures, take-same (a .length) (a .byte) (omega arith)) at (c .before .before .write .ensures)
 
 pub write-bytes-spec : {M : Type 1} → statement M
 write-bytes-spec =
     tie.close
-    (tie.spec array-share-prefix-bytes slice-aggregate-write write-requires same-length returns)
+    (tie.spec
+    same-bytes-requires
+    array-share-prefix-bytes
+    slice-aggregate-write
+    write-requires
+    same-length
+    returns)
