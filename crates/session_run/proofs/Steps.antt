@@ -7,7 +7,7 @@ use native.Mathlib.Omega.{arith}
 use native.Mathlib.Nat.{not-suc-le-zero, le-of-suc-le-suc}
 use lib.ListN.{length, take, replicate, length-replicate, length-take}
 use lib.Seq.{take-append-seam}
-use borrow.Author.Tests.{eq-eqb}
+use borrow.Author.Tests.{eq-eqb, le-leb}
 use borrow.Table.Steps.{cases}
 use Rattle.answer.specs.declared.Refusal.{Refusal}
 use Rattle.answer.specs.declared.Refusal.the-variants.{Line, Shape, Media, Books, Down, NoFile, Range, NoRoom, Cut}
@@ -25,7 +25,7 @@ use Rattle.session_line.specs.declared.Request.{Request}
 use Rattle.session_line.specs.Request.{spelled}
 use Rattle.session_line.specs.Rest.{Within}
 use Rattle.session_line.specs.Reply.{decimal, replyLine, printAnswer, printed}
-use Rattle.session_line.proofs.Reply.{length-small, decimal-length, decimal-fits, reply-length, print-fits}
+use Rattle.session_line.proofs.Reply.{length-small, decimal-length, decimal-fits, reply-length}
 use Rattle.session_run.specs.Session.{Ran, silent, shown, run, runLine}
 use Rattle.session_run.specs.Feeding.{replyBytes, runInto}
 use Rattle.session_run.specs.Steps.{noBytes, sameBytes, Made}
@@ -125,5 +125,5 @@ pub run-ends : (P : ℕ) (line output : List ℕ) (d : Device) (a : Coded) (byte
     → give (printAnswer (replyLine a bytes) output) (after, printed (replyLine a bytes) output) ≡ runInto P line (d, output)
 unfolding runInto
 run-ends P line output d a bytes after h e f =
-    let p = print-fits (replyLine a bytes) output (omega (arith, h, f)) in
-    rw (← e, eq-eqb _ _ h, p .0, p .1)
+    let fits : length (replyLine a bytes) ≤ length output = omega (arith, h, f) in
+    rw (← e, eq-eqb _ _ h, le-leb _ _ fits)

@@ -102,7 +102,7 @@ same-length-7 c = search needs
 
 returns-3 : tie.Need-returns-3
 unfolding run
-returns-3 c = let a = c .before .before .before .before .before .before .before .before .before .before .before .before .before .args in made-silent (a .request) _ (c .before .before .before .before .before .before .before .before .request3 .given .1) pagesPerFile (deviceOf (mediaOf (a .media .now) (a .sizes .now)) (a .frames .now) (a .cache)) _ _ _ _ _ _ _ _ _ refl (c .before .before .before .before .write-bytes .ensures) (c .silent3 .ensures)
+returns-3 c = let a = c .before .before .before .before .before .before .before .before .before .before .before .before .before .args in made-silent (a .request) _ (c .before .before .before .before .before .before .before .before .request3 .given .1) pagesPerFile (deviceOf (mediaOf (a .media .now) (a .sizes .now)) (a .frames .now) (a .cache)) _ _ _ _ _ _ _ _ _ refl (c .before .before .before .write-bytes .ensures) (c .silent3 .ensures)
 
 same-length-8 : tie.Need-same-length-8
 same-length-8 c = search needs
@@ -115,7 +115,7 @@ same-length-10 c = search needs
 
 returns-4 : tie.Need-returns-4
 unfolding run
-returns-4 c = let a = c .before .before .before .before .before .before .before .before .before .before .before .before .before .args in made-silent (a .request) _ (c .before .before .before .before .before .before .before .before .request4 .given .1) pagesPerFile (deviceOf (mediaOf (a .media .now) (a .sizes .now)) (a .frames .now) (a .cache)) _ _ _ _ _ _ _ _ _ refl (c .before .before .before .before .truncate .ensures) (c .silent4 .ensures)
+returns-4 c = let a = c .before .before .before .before .before .before .before .before .before .before .before .before .before .args in made-silent (a .request) _ (c .before .before .before .before .before .before .before .before .request4 .given .1) pagesPerFile (deviceOf (mediaOf (a .media .now) (a .sizes .now)) (a .frames .now) (a .cache)) _ _ _ _ _ _ _ _ _ refl (c .before .before .before .truncate .ensures) (c .silent4 .ensures)
 
 same-length-11 : tie.Need-same-length-11
 same-length-11 c = search needs
@@ -128,7 +128,7 @@ same-length-13 c = search needs
 
 returns-5 : tie.Need-returns-5
 unfolding run
-returns-5 c = let a = c .before .before .before .before .before .before .before .before .before .before .before .before .before .before .args in made-silent (a .request) _ (c .before .before .before .before .before .before .before .before .before .request5 .given .1) pagesPerFile (deviceOf (mediaOf (a .media .now) (a .sizes .now)) (a .frames .now) (a .cache)) _ _ _ _ _ _ _ _ _ refl (c .before .before .before .before .before .sync .ensures) (c .silent5 .ensures)
+returns-5 c = let a = c .before .before .before .before .before .before .before .before .before .before .before .before .before .before .before .args in made-silent (a .request) _ (c .before .before .before .before .before .before .before .before .before .before .request5 .given .1) pagesPerFile (deviceOf (mediaOf (a .media .now) (a .sizes .now)) (a .frames .now) (a .cache)) _ _ _ _ _ _ _ _ _ refl (c .before .before .before .before .before .sync .ensures) (c .silent5 .ensures)
 
 same-length-14 : tie.Need-same-length-14
 same-length-14 c = search needs

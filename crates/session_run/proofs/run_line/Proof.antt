@@ -1,65 +1,79 @@
+-- `session_run::run_line` meets its contract: the call is made and its answer printed.
+use mathlib.Core.Path.{_≡_, refl, sym, ap, _∙_}
+use mathlib.Core.Bool.{cond}
+use Prim.Native.Nat.{_≤_, _<_, _^_}
+use native.Mathlib.Omega.{arith}
+use lib.ListN.{length, take}
+use borrow.Author.Tests.{ne-eqb}
+use Rattle.answer.specs.Coded.{coded}
+use Rattle.media.specs.Geometry.{pagesPerFile}
+use Rattle.media.specs.Write.{mediaOf}
+use Rattle.device.specs.Device.{Device, deviceOf}
+use Rattle.session_line.proofs.Grammar.{length-front}
+use Rattle.session_run.specs.Session.{runLine}
+use Rattle.session_run.specs.Feeding.{runInto}
+use Rattle.session_run.proofs.Steps.{shown-few, text-fits, run-ends}
 use borrow.Author.Needs.{needs}
 use Rattle.session_run.proofs.run_line.Statement.{statement}
 use Rattle.session_run.proofs.run_line.Tie as tie
-use Rattle.session_run.proofs.run_line.Reads as reads
-use Rattle.session_run.proofs.run_line.Lts as lts
-use Rattle.answer.proofs.count.Reads as count-reads
-use Rattle.session_line.proofs.parse.Reads as parse-reads
-use Rattle.session_line.proofs.print.Reads as print-reads
-use Rattle.session_run.proofs.make.Reads as make-reads
-use Rattle.session_run.proofs.shown.Reads as shown-reads
 
--- src/lib.rt:177:13
+-- how many bytes are printed
+shown-is : (c : tie.After-shown) → c .shown .result ≡ cond (c .before .before .before .before .before .before .before .before .before .make .result .shows) (coded (c .before .before .before .before .before .before .before .before .before .make .result .answer) .count) 0
+shown-is c = rw (c .before .count .ensures) at (c .shown .ensures)
+
+few : (c : tie.After-shown) → c .shown .result ≤ length (c .before .before .before .before .before .before .before .before .before .make .result .bytes)
+few c = let n : length (c .before .before .before .before .before .before .before .before .before .make .result .bytes) ≡ 32 = search needs in omega (arith, n, shown-is c, shown-few _ _ _ _ _ (c .before .before .before .before .before .before .before .before .before .make .ensures))
+
 parse-requires : tie.Need-parse-requires
 parse-requires c κs = search needs
 
--- src/lib.rt:178:13
 make-requires : tie.Need-make-requires
 make-requires c κs = search needs
 
--- src/lib.rt:181:23
 count-requires : tie.Need-count-requires
 count-requires c κs = search needs
 
--- src/lib.rt:181:13
 shown-requires : tie.Need-shown-requires
 shown-requires c κs = search needs
 
--- src/lib.rt:182:51
 array-share-prefix-bytes : tie.Need-array-share-prefix-bytes
-array-share-prefix-bytes c = ?
+array-share-prefix-bytes c = few c
 
--- src/lib.rt:182:51
 slice-aggregate-print : tie.Need-slice-aggregate-print
-slice-aggregate-print c = ?
+slice-aggregate-print c = sym (length-front _ _ (few (c .before)))
 
--- src/lib.rt:182:13
 print-requires : tie.Need-print-requires
 print-requires c κs = search needs
 
--- src/lib.rt:184:9
 same-length : tie.Need-same-length
 same-length c = search needs
 
--- src/lib.rt:184:9
 same-length-2 : tie.Need-same-length-2
 same-length-2 c = search needs
 
--- src/lib.rt:184:9
 same-length-3 : tie.Need-same-length-3
 same-length-3 c = search needs
 
--- src/lib.rt:184:9
 same-length-4 : tie.Need-same-length-4
 same-length-4 c = search needs
 
--- src/lib.rt:184:9
 returns : tie.Need-returns
-returns c = ?
+unfolding runLine
+returns c =
+    let q = c .before .before .before .before .before .before in
+    let k = c .before .before .before .before .before .before .before .before .before .before .before .before .before .before .before in
+    let a = c .before .before .before .before .before .before .before .before .before .before .before .before .before .before .before .before .before .before .before .before .before .before .before .before .before .before .args in
+    let d = deviceOf (mediaOf (a .media .now) (a .sizes .now)) (a .frames .now) (a .cache) in
+    let p = c .before .before .before .print .ensures in
+    let w : coded (k .make .result .answer) .count < 2 ^ 64 = omega (arith, q .before .count .ensures) in
+    let f = text-fits _ (k .make .result .answer) (k .make .result .shows) (k .make .result .bytes) _ (k .make .ensures) w in
+    rw (p .0, p .1, shown-is q)
+    (run-ends pagesPerFile (a .line .now) (a .output .now) d (coded (k .make .result .answer)) _ _ (omega arith) (rw (k .before .before .before .before .parse .ensures .0) at (k .make .ensures .ran)) f)
 
--- src/lib.rt:165:1
+
 returns-2 : tie.Need-returns-2
-returns-2 c = ?
+unfolding runInto
+returns-2 c = rw (ne-eqb _ _ (c .if1 .left))
 
 pub run-line-spec : {M : Type 1} → statement M
 run-line-spec =
