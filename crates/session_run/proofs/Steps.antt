@@ -1,20 +1,24 @@
 -- Laws for the parts of the code.
 use mathlib.Core.Path.{_≡_, refl, sym, ap, _∙_}
+use mathlib.Core.Logic.{_≢_}
 use mathlib.Core.Bool.{Bool, true, false, cond, false≢true}
 use mathlib.Core.List.{List, [], _∷_, _++_}
 use Prim.Native.Nat.{ℕ, zero, suc, _+_, _*_, _^_, _≤_, _<_, min}
 use native.Mathlib.Omega.{arith}
 use native.Mathlib.Nat.{not-suc-le-zero, le-of-suc-le-suc}
+use lib.Dec.{leb}
 use lib.ListN.{length, take, replicate, length-replicate, length-take}
-use lib.Seq.{take-append-seam}
-use borrow.Author.Tests.{eq-eqb, le-leb}
+use lib.Seq.{take-append-seam, take-all}
+use borrow.Author.Tests.{eq-eqb, ne-eqb, le-leb, leb-true}
 use borrow.Table.Steps.{cases}
 use Rattle.answer.specs.declared.Refusal.{Refusal}
 use Rattle.answer.specs.declared.Refusal.the-variants.{Line, Shape, Media, Books, Down, NoFile, Range, NoRoom, Cut}
 use Rattle.answer.specs.declared.Answer.{Answer}
 use Rattle.answer.specs.declared.Answer.the-variants.{Done, Refused}
-use Rattle.answer.specs.Coded.{Coded, coded, codedRefusal}
-use Rattle.memory.specs.Bytes.{zeros}
+use Rattle.answer.specs.Coded.{Coded, coded, codedRefusal, done}
+use Rattle.memory.specs.Bytes.{zeros, overwrite}
+use Rattle.memory.proofs.Bytes.{overwrite-none}
+use Rattle.memory.proofs.Cases.{split-lt}
 use Rattle.media.specs.Write as Write
 use Rattle.device.specs.declared.CacheState.{CacheState}
 use Rattle.device.specs.Device.{Device, deviceOf}
@@ -24,11 +28,13 @@ use Rattle.device.proofs.Reading.{read-by}
 use Rattle.session_line.specs.declared.Request.{Request}
 use Rattle.session_line.specs.Request.{spelled}
 use Rattle.session_line.specs.Rest.{Within}
+use Rattle.session_line.specs.Grammar.{LF}
 use Rattle.session_line.specs.Reply.{decimal, replyLine, printAnswer, printed}
 use Rattle.session_line.proofs.Reply.{length-small, decimal-length, decimal-fits, reply-length}
-use Rattle.session_run.specs.Session.{Ran, silent, shown, run, runLine}
-use Rattle.session_run.specs.Feeding.{replyBytes, runInto}
-use Rattle.session_run.specs.Steps.{noBytes, sameBytes, Made}
+use Rattle.session_run.specs.declared.PartialLine.{PartialLine}
+use Rattle.session_run.specs.Session.{Ran, silent, shown, text, run, runLine}
+use Rattle.session_run.specs.Feeding.{keptBytes, pushed, restarted, lineOf, feedByte, replyBytes, runInto}
+use Rattle.session_run.specs.Steps.{noBytes, sameBytes, Made, Stepped}
 
 take-replicate : (n m x : ℕ) → n ≤ m → take n (replicate m x) ≡ replicate n x
 take-replicate zero m x h = refl
@@ -77,7 +83,8 @@ module _ (request v : Request) (told : request ≡ v) (P : ℕ) (d : Device) (m 
   made-silent x b t er ex k =
       record {
         ran = rw (told, er, k .0, k .1, k .2) (ap silent ex);
-        few = λ q. absurd (false≢true (sym (k .2) ∙ q)) }
+        few = λ q. absurd (false≢true (sym (k .2) ∙ q));
+      }
 
   -- a read
   pub made-read : (f position n : ℕ) → run P (spelled v) d ≡ shown d (read P f position (zeros n) d) → d ≡ deviceOf m frames s → n ≤ 32
@@ -87,7 +94,8 @@ module _ (request v : Request) (told : request ≡ v) (P : ℕ) (d : Device) (m 
       let c : coded a .count ≤ n = omega (arith, e, read-counts P f position (zeros n) d, length-replicate {A = ℕ} n 0) in
       record {
         ran = rw (told, er, k, ← ed, ← ex, take-take _ _ bytes c);
-        few = λ q. omega (arith, c) }
+        few = λ q. omega (arith, c);
+      }
 
 -- ---- the line that is printed
 
@@ -116,8 +124,12 @@ text-fits r a shows bytes d m h =
     let n : length (decimal (coded a .number)) ≡ 1 = length-small (coded a .number) (number-small a) in
     cases shows
     (λ e. let f : coded a .count ≤ 32 = m .few e in
-      rw e (omega (arith, f, n, reply-length (coded a) (take (coded a .count) bytes), decimal-length (coded a .count) 2 (omega (arith, f)) (omega arith), length-take (coded a .count) bytes)))
+    rw e (omega (arith, f, n, reply-length (coded a) (take (coded a .count) bytes), decimal-length (coded a .count) 2 (omega (arith, f)) (omega arith), length-take (coded a .count) bytes)))
     (λ e. rw e (omega (arith, n, reply-length (coded a) [], decimal-fits (coded a .count) h)))
+
+pub print-count : (text output : List ℕ) → printAnswer text output .count ≤ length output
+print-count text output =
+    cases (leb (length text) (length output)) (λ e. rw e (leb-true _ _ e)) (λ e. rw e (omega arith))
 
 -- the answer is printed
 pub run-ends : (P : ℕ) (line output : List ℕ) (d : Device) (a : Coded) (bytes : List ℕ) (after : Device) → length output ≡ replyBytes
@@ -127,3 +139,39 @@ unfolding runInto
 run-ends P line output d a bytes after h e f =
     let fits : length (replyLine a bytes) ≤ length output = omega (arith, h, f) in
     rw (← e, eq-eqb _ _ h, le-leb _ _ fits)
+
+-- ---- one byte of input
+
+-- the line that was kept
+pub kept-line : (p : PartialLine) (n : ℕ) → length (p .bytes) ≡ keptBytes → n ≡ min (p .length) keptBytes → take n (p .bytes) ≡ lineOf p
+unfolding lineOf
+kept-line p n h e =
+    split-lt keptBytes (p .length)
+    (λ k. let a : length (p .bytes) ≤ n = omega (arith, h, e) in
+      let b : length (p .bytes) ≤ p .length = omega (arith, h) in
+      rw (take-all n (p .bytes) a, take-all (p .length) (p .bytes) b))
+    (λ k. let a : n ≡ p .length = omega (arith, e) in ap (λ (j : ℕ). take j (p .bytes)) a)
+
+-- the line has ended, and was run
+pub stepped-end : (P b : ℕ) (d : Device) (p : PartialLine) (line output left : List ℕ) (after : Device) (a : Answer) (n : ℕ)
+    → b ≡ LF → line ≡ lineOf p → length output ≡ replyBytes → n ≡ coded a .count
+    → (give {A = Device × List ℕ} (coded a) (after, left) ≡ runInto P line (d, output)) × (coded a .count ≤ replyBytes)
+    → Stepped (feedByte P b d p) after (restarted p) output left n
+unfolding runInto feedByte
+stepped-end P b d p line output left after a n eb el h en e =
+    let r : Ran = runLine P line d in
+    let q : give {A = Device × List ℕ} (coded a) (after, left) ≡ give (done (length (text r))) (r .device, overwrite output 0 (text r)) = rw (eq-eqb _ _ h) at (e .0) in
+    let m : coded a .count ≡ length (text r) = ap (λ (x : Result (Device × List ℕ)). x .answer .count) q in
+    rw (eq-eqb _ _ eb, ← el)
+    (record {
+      device = ap (λ (x : Result (Device × List ℕ)). x .left .0) q;
+      partial = refl;
+      bytes = ap (λ (x : Result (Device × List ℕ)). x .left .1) q;
+      count = en ∙ m;
+      fits = omega (arith, m, e .1) })
+
+-- the line goes on
+pub stepped-on : (P b : ℕ) (d : Device) (p : PartialLine) (output : List ℕ) → b ≢ LF → Stepped (feedByte P b d p) d (pushed b p) output output 0
+unfolding feedByte
+stepped-on P b d p output n =
+    rw (ne-eqb _ _ n) (record { device = refl; partial = refl; bytes = sym (overwrite-none output 0); count = refl; fits = omega arith })

@@ -10,20 +10,21 @@ use session_line::Request;
 ghost use mathlib.Core.Path.{_≡_};
 ghost use mathlib.Core.Bool.{true, false, cond};
 ghost use Prim.Native.Nat.{_≤_};
-ghost use lib.ListN.{take, replicate};
+ghost use lib.ListN.{length, take, replicate};
 ghost use Rattle.answer.specs.Coded.{coded};
 ghost use Rattle.memory.specs.Bytes.{zeros};
 ghost use Rattle.media.specs.Geometry.{pagesPerFile};
 ghost use Rattle.media.specs.Write.{mediaOf};
-ghost use Rattle.device.specs.Device.{deviceOf};
+ghost use Rattle.device.specs.Device.{deviceOf, downState};
 ghost use Rattle.device.specs.Admission.{give};
 ghost use Rattle.device.specs.Reading.{read};
 ghost use Rattle.device.specs.Writing.{write};
 ghost use Rattle.session_line.specs.Request.{spelled};
+ghost use Rattle.session_line.specs.Reply.{header};
 ghost use Rattle.session_line.specs.Rest.{Within};
 ghost use Rattle.session_run.specs.Session.{run};
-ghost use Rattle.session_run.specs.Feeding.{runInto};
-ghost use Rattle.session_run.specs.Steps.{noBytes, sameBytes, Made};
+ghost use Rattle.session_run.specs.Feeding.{replyBytes, noLine, pushed, lastEnd, feedByte, runInto, desk, feedBlock};
+ghost use Rattle.session_run.specs.Steps.{noBytes, sameBytes, Made, Stepped};
 
 // The greatest length of a line that is printed.
 pub const REPLY_BYTES: usize = 70;
@@ -71,7 +72,12 @@ fn silent(outcome: Outcome) -> Call
 {
     let answer = outcome.answer;
     let cache = outcome.cache;
-    Call { answer, cache, shows: false, bytes: no_bytes() }
+    Call {
+        answer,
+        cache,
+        shows: false,
+        bytes: no_bytes(),
+    }
 }
 
 // As many bytes of one value as a line may write.
@@ -97,7 +103,15 @@ fn write_bytes(
         ≡ write pagesPerFile file position (replicate length byte) (deviceOf (mediaOf (now (media .entry)) (now (sizes .entry))) (now (frames .entry)) cache) ⌝ }
 {
     let bytes = same_bytes(byte);
-    cache::write(media, sizes, frames, cache, file, position, &bytes[..length])
+    cache::write(
+        media,
+        sizes,
+        frames,
+        cache,
+        file,
+        position,
+        &bytes[..length],
+    )
 }
 
 // A read of at most 32 bytes.
@@ -116,8 +130,21 @@ fn read_bytes(
         × (r .cache ≡ cache) × (r .shows ≡ true) ⌝ }
 {
     let mut bytes = no_bytes();
-    let answer = cache::read(media, sizes, frames, cache, file, position, &mut bytes[..length]);
-    Call { answer, cache, shows: true, bytes }
+    let answer = cache::read(
+        media,
+        sizes,
+        frames,
+        cache,
+        file,
+        position,
+        &mut bytes[..length],
+    );
+    Call {
+        answer,
+        cache,
+        shows: true,
+        bytes,
+    }
 }
 
 // The call that a line asks for.
@@ -136,10 +163,24 @@ fn make(
         Request::Format(budget) => silent(cache::format(media, sizes, cache, budget)),
         Request::Mount(budget) => silent(cache::mount(media, sizes, cache, budget)),
         Request::Write(file, position, length, byte) => silent(write_bytes(
-            media, sizes, frames, cache, file, position, length, byte,
+            media,
+            sizes,
+            frames,
+            cache,
+            file,
+            position,
+            length,
+            byte,
         )),
         Request::Truncate(file, n) => silent(cache::truncate(media, sizes, frames, cache, file, n)),
-        Request::Sync(file, budget) => silent(cache::sync(media, sizes, frames, cache, file, budget)),
+        Request::Sync(file, budget) => silent(cache::sync(
+            media,
+            sizes,
+            frames,
+            cache,
+            file,
+            budget,
+        )),
         Request::Read(file, position, length) => {
             read_bytes(media, sizes, frames, cache, file, position, length)
         }
@@ -161,7 +202,7 @@ fn shown(count: usize, shows: bool) -> usize
 }
 
 // Runs one line, without its LF, and prints its answer at the front of the output, which has 70 bytes, or else it is SHAPE. The
-// count is the number of bytes printed; the rest of the output keeps its bytes.
+// count is the number of bytes printed, which is never above 70; the rest of the output keeps its bytes.
 pub fn run_line(
     media: &mut [u8],
     sizes: &mut [u32],
@@ -170,8 +211,9 @@ pub fn run_line(
     line: &[u8],
     output: &mut [u8],
 ) -> Outcome
-    ensures { λ r. ⌜ give (coded (r .answer)) (deviceOf (mediaOf (now (media .exit)) (now (sizes .exit))) (now (frames .exit)) (r .cache), now (output .exit))
-        ≡ runInto pagesPerFile (now (line .entry)) (deviceOf (mediaOf (now (media .entry)) (now (sizes .entry))) (now (frames .entry)) cache, now (output .entry)) ⌝ }
+    ensures { λ r. ⌜ (give (coded (r .answer)) (deviceOf (mediaOf (now (media .exit)) (now (sizes .exit))) (now (frames .exit)) (r .cache), now (output .exit))
+        ≡ runInto pagesPerFile (now (line .entry)) (deviceOf (mediaOf (now (media .entry)) (now (sizes .entry))) (now (frames .entry)) cache, now (output .entry)))
+        × ((coded (r .answer)) .count ≤ replyBytes) ⌝ }
 {
     if output.len() == REPLY_BYTES {
         let request = session_line::parse(line);
@@ -190,4 +232,166 @@ pub fn run_line(
         answer: Answer::Refused(Refusal::Shape),
         cache,
     }
+}
+
+// ---- the input, byte by byte
+
+// A session before its first byte: down, and no line begun. The media, the stored sizes and the page frames start as zeros.
+pub fn start() -> Session
+    ensures { λ r. ⌜ (r .cache ≡ downState) × (r .line ≡ noLine) ⌝ }
+{
+    Session {
+        cache: cache::down_state(),
+        line: PartialLine {
+            bytes: [0; KEPT_BYTES],
+            length: 0,
+        },
+    }
+}
+
+// The first line of the output.
+pub fn header() -> [u8; 19]
+    ensures { λ r. ⌜ r ≡ header ⌝ }
+{
+    [
+        b'a',
+        b'n',
+        b's',
+        b'w',
+        b'e',
+        b'r',
+        b',',
+        b'c',
+        b'o',
+        b'u',
+        b'n',
+        b't',
+        b',',
+        b'b',
+        b'y',
+        b't',
+        b'e',
+        b's',
+        b'\n',
+    ]
+}
+
+// A byte more of the line; one that is over 40 bytes keeps its first 41.
+fn push(line: PartialLine, b: u8) -> PartialLine
+    ensures { λ r. ⌜ r ≡ pushed b line ⌝ }
+{
+    let n = line.length;
+    if n < KEPT_BYTES {
+        let mut bytes = line.bytes;
+        bytes[n] = b;
+        return PartialLine {
+            bytes,
+            length: n + 1,
+        };
+    }
+    line
+}
+
+// What a byte of input gives: the session after it, and how many bytes it printed.
+struct Step {
+    session: Session,
+    count: usize,
+}
+
+fn feed_byte(
+    media: &mut [u8],
+    sizes: &mut [u32],
+    frames: &mut [u8],
+    session: Session,
+    b: u8,
+    output: &mut [u8],
+) -> Step
+    requires { ⌜ length (now output) ≡ replyBytes ⌝ }
+    ensures { λ r. ⌜ Stepped (feedByte pagesPerFile b (deviceOf (mediaOf (now (media .entry)) (now (sizes .entry))) (now (frames .entry)) (session .cache)) (session .line))
+        (deviceOf (mediaOf (now (media .exit)) (now (sizes .exit))) (now (frames .exit)) (r .session .cache)) (r .session .line)
+        (now (output .entry)) (now (output .exit)) (r .count) ⌝ }
+{
+    let cache = session.cache;
+    let line = session.line;
+    if b == b'\n' {
+        let bytes = line.bytes;
+        let n = number::min(line.length, KEPT_BYTES);
+        let ran = run_line(media, sizes, frames, cache, &bytes[..n], output);
+        let state = ran.cache;
+        let answer = ran.answer;
+        return Step {
+            session: Session {
+                cache: state,
+                line: PartialLine { bytes, length: 0 },
+            },
+            count: answer::count(answer),
+        };
+    }
+    Step {
+        session: Session {
+            cache,
+            line: push(line, b),
+        },
+        count: 0,
+    }
+}
+
+// Takes a block of input, prints what it gives at the front of the output, and counts it. SHAPE, and nothing is taken, where the
+// output has less room than 70 bytes for each byte of the block; the rest of the output keeps its bytes.
+pub fn feed(
+    media: &mut [u8],
+    sizes: &mut [u32],
+    frames: &mut [u8],
+    session: Session,
+    input: &[u8],
+    output: &mut [u8],
+) -> Fed
+    ensures { λ r. ⌜ give (coded (r .answer)) (desk (deviceOf (mediaOf (now (media .exit)) (now (sizes .exit))) (now (frames .exit)) (r .session .cache)) (r .session .line) (now (output .exit)))
+        ≡ feedBlock pagesPerFile (now (input .entry)) (desk (deviceOf (mediaOf (now (media .entry)) (now (sizes .entry))) (now (frames .entry)) (session .cache)) (session .line) (now (output .entry))) ⌝ }
+{
+    if output.len() / REPLY_BYTES < input.len() {
+        return Fed {
+            answer: Answer::Refused(Refusal::Shape),
+            session,
+        };
+    }
+    let mut current = session;
+    let mut put = 0;
+    let mut i = 0;
+    while i < input.len() {
+        let end = put + REPLY_BYTES;
+        let step = feed_byte(
+            media,
+            sizes,
+            frames,
+            current,
+            input[i],
+            &mut output[put..end],
+        );
+        let next = step.session;
+        current = next;
+        put += step.count;
+        i += 1;
+    }
+    Fed {
+        answer: Answer::Done(put),
+        session: current,
+    }
+}
+
+// Ends the input: a last line that lacks its LF is run.
+pub fn finish(
+    media: &mut [u8],
+    sizes: &mut [u32],
+    frames: &mut [u8],
+    session: Session,
+    output: &mut [u8],
+) -> Fed
+    ensures { λ r. ⌜ give (coded (r .answer)) (desk (deviceOf (mediaOf (now (media .exit)) (now (sizes .exit))) (now (frames .exit)) (r .session .cache)) (r .session .line) (now (output .exit)))
+        ≡ feedBlock pagesPerFile (lastEnd (session .line)) (desk (deviceOf (mediaOf (now (media .entry)) (now (sizes .entry))) (now (frames .entry)) (session .cache)) (session .line) (now (output .entry))) ⌝ }
+{
+    let ends = [b'\n'];
+    let line = session.line;
+    let n = number::min(line.length, 1);
+    feed(media, sizes, frames, session, &ends[..n], output)
 }

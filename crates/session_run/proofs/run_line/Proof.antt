@@ -9,10 +9,11 @@ use Rattle.answer.specs.Coded.{coded}
 use Rattle.media.specs.Geometry.{pagesPerFile}
 use Rattle.media.specs.Write.{mediaOf}
 use Rattle.device.specs.Device.{Device, deviceOf}
+use Rattle.session_line.specs.Reply.{replyLine}
 use Rattle.session_line.proofs.Grammar.{length-front}
 use Rattle.session_run.specs.Session.{runLine}
 use Rattle.session_run.specs.Feeding.{runInto}
-use Rattle.session_run.proofs.Steps.{shown-few, text-fits, run-ends}
+use Rattle.session_run.proofs.Steps.{shown-few, text-fits, print-count, run-ends}
 use borrow.Author.Needs.{needs}
 use Rattle.session_run.proofs.run_line.Statement.{statement}
 use Rattle.session_run.proofs.run_line.Tie as tie
@@ -67,13 +68,13 @@ returns c =
     let p = c .before .before .before .print .ensures in
     let w : coded (k .make .result .answer) .count < 2 ^ 64 = omega (arith, q .before .count .ensures) in
     let f = text-fits _ (k .make .result .answer) (k .make .result .shows) (k .make .result .bytes) _ (k .make .ensures) w in
-    rw (p .0, p .1, shown-is q)
-    (run-ends pagesPerFile (a .line .now) (a .output .now) d (coded (k .make .result .answer)) _ _ (omega arith) (rw (k .before .before .before .before .parse .ensures .0) at (k .make .ensures .ran)) f)
-
+    (rw (p .0, p .1, shown-is q)
+    (run-ends pagesPerFile (a .line .now) (a .output .now) d (coded (k .make .result .answer)) _ _ (omega arith) (rw (k .before .before .before .before .parse .ensures .0) at (k .make .ensures .ran)) f),
+    rw (p .0) (omega (arith, print-count (replyLine (coded (k .make .result .answer)) (take (q .shown .result) (k .make .result .bytes))) (a .output .now))))
 
 returns-2 : tie.Need-returns-2
 unfolding runInto
-returns-2 c = rw (ne-eqb _ _ (c .if1 .left))
+returns-2 c = (rw (ne-eqb _ _ (c .if1 .left)), omega arith)
 
 pub run-line-spec : {M : Type 1} → statement M
 run-line-spec =
