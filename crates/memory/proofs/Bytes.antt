@@ -19,6 +19,9 @@ getD-zeros (suc n) (suc i) = getD-zeros n i
 
 -- ---- parts
 
+pub length-front : (n : ℕ) (xs : List ℕ) → n ≤ length xs → length (take n xs) ≡ n
+length-front n xs h = simp length-take (omega arith)
+
 module _ (xs : List ℕ) (a n : ℕ) where
   pub length-part : a + n ≤ length xs → length (part xs a n) ≡ n
   length-part h = simp (length-take, length-drop) (omega arith)
@@ -134,12 +137,25 @@ put-zeros a e xs ys h k l =
     let q : ys ≡ zeros (e - a) = h ∙ ap zeros (length-part xs a (e - a) (omega arith)) in
     rw q (put-back a e xs (zeros (e - a)) (length-replicate (e - a) 0) k l)
 
--- the part was copied over
-pub put-copy : (a e : ℕ) (xs ys zs : List ℕ) → ys ≡ overwrite (part xs a (e - a)) 0 zs → length zs ≡ e - a → a ≤ e → e ≤ length xs
+-- laid over a part
+over-part : (xs : List ℕ) (a n : ℕ) (zs : List ℕ) → length zs ≤ n → overwrite xs a (overwrite (part xs a n) 0 zs) ≡ overwrite xs a zs
+over-part [] a n zs h = refl
+over-part (x ∷ xs) (suc a) n zs h = ap (λ (l : List ℕ). x ∷ l) (over-part xs a n zs h)
+over-part (x ∷ xs) zero n zs h = go (x ∷ xs) n zs h
+  where
+    go : (xs : List ℕ) (n : ℕ) (zs : List ℕ) → length zs ≤ n → overwrite xs 0 (overwrite (take n xs) 0 zs) ≡ overwrite xs 0 zs
+    go [] n zs h = refl
+    go (x ∷ xs) zero [] h = refl
+    go (x ∷ xs) zero (z ∷ zs) h = absurd (not-suc-le-zero h)
+    go (x ∷ xs) (suc n) [] h = ap (λ (l : List ℕ). x ∷ l) (rw (overwrite-none (take n xs) 0, overwrite-none xs 0) at (go xs n [] (omega arith)))
+    go (x ∷ xs) (suc n) (z ∷ zs) h = ap (λ (l : List ℕ). z ∷ l) (go xs n zs (le-of-suc-le-suc h))
+
+-- the front of the part was copied over
+pub put-copy : (a e : ℕ) (xs ys zs : List ℕ) → ys ≡ overwrite (part xs a (e - a)) 0 zs → length zs ≤ e - a → a ≤ e → e ≤ length xs
     → putMid a (e - a) xs ys ≡ overwrite xs a zs
 put-copy a e xs ys zs h l k m =
-    let q : ys ≡ zs = h ∙ overwrite-whole (part xs a (e - a)) zs (l ∙ sym (length-part xs a (e - a) (omega arith))) in
-    rw q (put-back a e xs zs l k m)
+    let n : length ys ≡ e - a = ap length h ∙ length-overwrite (part xs a (e - a)) 0 zs ∙ length-part xs a (e - a) (omega arith) in
+    put-back a e xs ys n k m ∙ rw h (over-part xs a (e - a) zs l)
 
 pub length-put : (a e : ℕ) (xs ys : List ℕ) → length ys ≡ e - a → a ≤ e → e ≤ length xs → length (putMid a (e - a) xs ys) ≡ length xs
 length-put a e xs ys l k m = rw (put-back a e xs ys l k m) (length-overwrite xs a ys)

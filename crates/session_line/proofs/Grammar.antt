@@ -12,6 +12,7 @@ use lib.ListN.{length, getD, set, take, drop, drop-of-length-le, length-drop, le
 use lib.Seq.{drop-cons, drop-drop, take-suc-set, take-all, getD-take}
 use borrow.Author.Tests.{eqb-true, leb-true, eq-eqb, ne-eqb, le-leb, lt-leb}
 use borrow.Table.Steps.{cases}
+use Rattle.memory.proofs.Bytes.{length-front}
 use Rattle.memory.proofs.Cases.{split-eq}
 use Rattle.scan.specs.Scan.{every, firstIndex}
 use Rattle.scan.proofs.Scan.{and-left, and-right, allOf-at, every-at, first-le}
@@ -117,9 +118,6 @@ pub record Parsing (line limits values : List ℕ) (at i : ℕ) : Type 0 where
 
 pub parsing-none : (line limits values : List ℕ) → 1 ≤ length line → Parsing line limits values 1 0
 parsing-none line limits values h = record { fits = refl; read = refl; within = h }
-
-pub length-front : (n : ℕ) (xs : List ℕ) → n ≤ length xs → length (take n xs) ≡ n
-length-front n xs h = length-take n xs ∙ min-eq-left h
 
 -- all from index n on
 pub rest-whole : (n : ℕ) (xs : List ℕ) → take (length xs - n) (drop n xs) ≡ drop n xs

@@ -21,22 +21,7 @@ use Rattle.session_run.specs.declared.PartialLine.{PartialLine}
 use Rattle.session_run.specs.Session.{Ran, text, run, runLine, answers, startDevice, output}
 use Rattle.session_run.specs.Feeding.{keptBytes, noLine, pushed, restarted, lineOf, Fed, fed, after, feedByte, feed, feedAll, lastEnd}
 use Rattle.session_run.specs.Claims.{joined, printedInBlocks, AnyBlocks}
-
--- ---- one block after another
-
-after-after : (s t : List ℕ) (x : Fed) → after s (after t x) ≡ after (s ++ t) x
-after-after s t x = ap (fed (x .device) (x .line)) (sym (append-assoc s t (x .text)))
-
-module _ (P : ℕ) where
-  feed-join : (xs ys : List ℕ) (d : Device) (p : PartialLine) → after (feed P xs d p .text) (feed P ys (feed P xs d p .device) (feed P xs d p .line)) ≡ feed P (xs ++ ys) d p
-  feed-join [] ys d p = refl
-  feed-join (x ∷ xs) ys d p =
-      let y : Fed = feedByte P x d p in
-      rw (← feed-join xs ys (y .device) (y .line)) (sym (after-after (y .text) (feed P xs (y .device) (y .line) .text) _))
-
-  blocks-joined : (blocks : List (List ℕ)) (d : Device) (p : PartialLine) → feedAll P blocks d p ≡ feed P (joined blocks) d p
-  blocks-joined [] d p = refl
-  blocks-joined (b ∷ bs) d p = rw (blocks-joined bs (feed P b d p .device) (feed P b d p .line)) (feed-join b (joined bs) d p)
+use Rattle.session_run.proofs.Feeding.{blocks-joined}
 
 -- ---- lines
 

@@ -8,7 +8,7 @@ use native.Mathlib.Omega.{arith}
 use native.Mathlib.Nat.{not-suc-le-zero, le-of-suc-le-suc}
 use lib.Dec.{leb}
 use lib.ListN.{length, take, replicate, length-replicate, length-take}
-use lib.Seq.{take-append-seam, take-all}
+use lib.Seq.{take-append-seam, take-all, take-take}
 use borrow.Author.Tests.{eq-eqb, ne-eqb, le-leb, leb-true}
 use borrow.Table.Steps.{cases}
 use Rattle.answer.specs.declared.Refusal.{Refusal}
@@ -66,12 +66,6 @@ take-front n xs ys e = rw (← e) (take-append-seam xs ys)
 -- a read counts no more than it was asked for
 pub read-counts : (P f position : ℕ) (buffer : List ℕ) (d : Device) → read P f position buffer d .answer .count ≤ length buffer
 read-counts P f position buffer d = read-by P f position buffer d (λ r. r .answer .count ≤ length buffer) (λ k h n. omega arith) (λ ok. omega arith)
-
-take-take : (n m : ℕ) (xs : List ℕ) → n ≤ m → take n (take m xs) ≡ take n xs
-take-take zero m xs h = refl
-take-take (suc n) zero xs h = absurd (not-suc-le-zero h)
-take-take (suc n) (suc m) [] h = refl
-take-take (suc n) (suc m) (x ∷ xs) h = ap (λ (l : List ℕ). x ∷ l) (take-take n m xs (le-of-suc-le-suc h))
 
 pub within-of : (r v : Request) → r ≡ v → Within r → Within v
 within-of r v e h = rw e at h
@@ -156,7 +150,7 @@ kept-line p n h e =
 pub stepped-end : (P b : ℕ) (d : Device) (p : PartialLine) (line output left : List ℕ) (after : Device) (a : Answer) (n : ℕ)
     → b ≡ LF → line ≡ lineOf p → length output ≡ replyBytes → n ≡ coded a .count
     → (give {A = Device × List ℕ} (coded a) (after, left) ≡ runInto P line (d, output)) × (coded a .count ≤ replyBytes)
-    → Stepped (feedByte P b d p) after (restarted p) output left n
+    → Stepped replyBytes (feedByte P b d p) after (restarted p) output left n
 unfolding runInto feedByte
 stepped-end P b d p line output left after a n eb el h en e =
     let r : Ran = runLine P line d in
@@ -171,7 +165,7 @@ stepped-end P b d p line output left after a n eb el h en e =
       fits = omega (arith, m, e .1) })
 
 -- the line goes on
-pub stepped-on : (P b : ℕ) (d : Device) (p : PartialLine) (output : List ℕ) → b ≢ LF → Stepped (feedByte P b d p) d (pushed b p) output output 0
+pub stepped-on : (P b : ℕ) (d : Device) (p : PartialLine) (output : List ℕ) → b ≢ LF → Stepped replyBytes (feedByte P b d p) d (pushed b p) output output 0
 unfolding feedByte
 stepped-on P b d p output n =
     rw (ne-eqb _ _ n) (record { device = refl; partial = refl; bytes = sym (overwrite-none output 0); count = refl; fits = omega arith })

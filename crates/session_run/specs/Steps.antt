@@ -9,7 +9,7 @@ use Rattle.memory.specs.Bytes.{zeros, overwrite}
 use Rattle.device.specs.Device.{Device}
 use Rattle.session_run.specs.declared.PartialLine.{PartialLine}
 use Rattle.session_run.specs.Session.{Ran}
-use Rattle.session_run.specs.Feeding.{Fed, replyBytes}
+use Rattle.session_run.specs.Feeding.{Fed}
 
 -- as many bytes of one value as a line may write
 unfoldable pub sameBytes : ℕ → List ℕ
@@ -24,10 +24,10 @@ pub record Made (r : Ran) (a : Coded) (shows : Bool) (bytes : List ℕ) (d : Dev
   pub ran : record { answer = a; bytes = take (cond shows (a .count) 0) bytes; device = d } ≡ r
   pub few : shows ≡ true → a .count ≤ 32
 
--- a byte of input was taken: what it prints stands at the front of the output
-pub record Stepped (x : Fed) (d : Device) (line : PartialLine) (before after : List ℕ) (n : ℕ) : Type 0 where
+-- input was taken: what it prints, no more than a bound, stands at the front of the output
+pub record Stepped (bound : ℕ) (x : Fed) (d : Device) (line : PartialLine) (before after : List ℕ) (n : ℕ) : Type 0 where
   pub device : d ≡ x .device
   pub partial : line ≡ x .line
   pub bytes : after ≡ overwrite before 0 (x .text)
   pub count : n ≡ length (x .text)
-  pub fits : length (x .text) ≤ replyBytes
+  pub fits : length (x .text) ≤ bound

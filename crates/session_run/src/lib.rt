@@ -307,7 +307,7 @@ fn feed_byte(
     output: &mut [u8],
 ) -> Step
     requires { ⌜ length (now output) ≡ replyBytes ⌝ }
-    ensures { λ r. ⌜ Stepped (feedByte pagesPerFile b (deviceOf (mediaOf (now (media .entry)) (now (sizes .entry))) (now (frames .entry)) (session .cache)) (session .line))
+    ensures { λ r. ⌜ Stepped replyBytes (feedByte pagesPerFile b (deviceOf (mediaOf (now (media .entry)) (now (sizes .entry))) (now (frames .entry)) (session .cache)) (session .line))
         (deviceOf (mediaOf (now (media .exit)) (now (sizes .exit))) (now (frames .exit)) (r .session .cache)) (r .session .line)
         (now (output .entry)) (now (output .exit)) (r .count) ⌝ }
 {

@@ -8,7 +8,8 @@ use Rattle.scan.specs.Scan.{firstIndex}
 use Rattle.session_line.specs.Grammar.{isNumber}
 use Rattle.session_line.specs.Rest.{isComma}
 use borrow.Author.Needs.{needs}
-use Rattle.session_line.proofs.Grammar.{length-front, rest-whole, fieldAfter, length-field, Parsing, parsing-none, parsing-end, parsing-short, parsing-stop, parsing-next, end-within, unfit, number-parts}
+use Rattle.memory.proofs.Bytes.{length-front}
+use Rattle.session_line.proofs.Grammar.{rest-whole, fieldAfter, length-field, Parsing, parsing-none, parsing-end, parsing-short, parsing-stop, parsing-next, end-within, unfit, number-parts}
 use Rattle.session_line.proofs.numbers.Statement.{statement}
 use Rattle.session_line.proofs.numbers.Tie as tie
 

@@ -1,84 +1,94 @@
+-- `session_run::feed` meets its contract: the bytes before i were taken.
+use mathlib.Core.Path.{_≡_, refl, sym, _∙_}
+use Prim.Native.Nat.{_+_, _-_, _^_, _<_, _≤_}
+use native.Mathlib.Omega.{arith}
+use lib.ListN.{length}
+use borrow.Author.Needs.{needs}
+use Rattle.media.specs.Geometry.{pagesPerFile}
+use Rattle.media.specs.Write.{mediaOf}
+use Rattle.memory.proofs.Bytes.{length-part, length-put}
+use Rattle.device.specs.Device.{deviceOf}
+use Rattle.session_run.specs.Feeding.{replyBytes}
+use Rattle.session_run.proofs.Feeding.{FedTo, fed-none, fed-room, fed-next, fed-all, fed-refused}
 use Rattle.session_run.proofs.feed.Statement.{statement}
 use Rattle.session_run.proofs.feed.Tie as tie
-use Rattle.session_run.proofs.feed.Reads as reads
-use Rattle.session_run.proofs.feed.Lts as lts
-use Rattle.session_run.proofs.feed_byte.Reads as feed-byte-reads
 
 abbrev Inv-loop : tie.InvT-loop
 Inv-loop media₀ sizes₀ frames₀ input output₀ current₀ put₀ i₀ media sizes frames output current put i =
-    ?
+    FedTo pagesPerFile input (deviceOf (mediaOf media₀ sizes₀) frames₀ (current₀ .cache)) (current₀ .line) output₀ i
+    (deviceOf (mediaOf media sizes) frames (current .cache)) (current .line) output put
+    × (length media ≡ length media₀)
+    × (length sizes ≡ length sizes₀)
+    × (length frames ≡ length frames₀)
+    × (length output ≡ length output₀)
 
 abbrev μ-loop : tie.MeasureT-loop
-μ-loop media₀ sizes₀ frames₀ input output₀ current₀ put₀ i₀ media sizes frames output current put i =
-    ?
+μ-loop media₀ sizes₀ frames₀ input output₀ current₀ put₀ i₀ media sizes frames output current put i = length input - i
 
--- src/lib.rt:352:9
+-- in a turn: there is a byte, and room for a line
+more : (q : tie.In-loop Inv-loop μ-loop) → q .before .loop .i < length (q .before .before .before .before .before .before .before .before .args .input .now)
+more q = omega arith
+
+room : (q : tie.In-loop Inv-loop μ-loop) → q .before .loop .put + replyBytes ≤ length (q .before .loop .output)
+room q =
+    let l = q .before in
+    let a = q .before .before .before .before .before .before .before .before .args in
+    fed-room pagesPerFile (a .input .now) (deviceOf (mediaOf (a .media .now) (a .sizes .now)) (a .frames .now) (a .session .cache)) (a .session .line) (a .output .now)
+    (l .loop .i) _ _ (l .loop .output) (l .loop .put) (l .loop .inv .0) (more q) (omega arith) (l .loop .inv .4)
+
+small : (q : tie.In-loop Inv-loop μ-loop) → (q .before .loop .i + 1 < 2 ^ 64) × (q .before .loop .put + replyBytes < 2 ^ 64)
+small q = (omega (arith, more q), omega (arith, room q))
+
 returns : tie.Need-returns Inv-loop μ-loop
-returns c = ?
+returns c = let a = c .before .before .before .before .before .before .args in fed-refused pagesPerFile (a .input .now) (deviceOf (mediaOf (a .media .now) (a .sizes .now)) (a .frames .now) (a .session .cache)) (a .session .line) (a .output .now) (c .if1 .taken)
 
--- src/lib.rt:360:5
 loop-holds : tie.Need-loop-holds Inv-loop μ-loop
-loop-holds c = ?
+loop-holds c = (fed-none pagesPerFile (c .before .before .before .before .before .before .args .input .now) _ _ _, refl, refl, refl, refl)
 
--- src/lib.rt:361:19
 add-end : tie.Need-add-end Inv-loop μ-loop
-add-end c = ?
+add-end c = omega (arith, room c)
 
--- src/lib.rt:367:13
 shared-slice-read-feed-byte : tie.Need-shared-slice-read-feed-byte Inv-loop μ-loop
-shared-slice-read-feed-byte c = ?
+shared-slice-read-feed-byte c = search needs
 
--- src/lib.rt:368:13
 sub-feed-byte : tie.Need-sub-feed-byte Inv-loop μ-loop
-sub-feed-byte c = ?
+sub-feed-byte c = omega arith
 
--- src/lib.rt:368:13
 part-feed-byte-start : tie.Need-part-feed-byte-start Inv-loop μ-loop
-part-feed-byte-start c = ?
+part-feed-byte-start c = omega arith
 
--- src/lib.rt:368:13
 part-feed-byte-end : tie.Need-part-feed-byte-end Inv-loop μ-loop
-part-feed-byte-end c = ?
+part-feed-byte-end c = omega (arith, room (c .before .before .before .before))
 
--- src/lib.rt:362:13
 feed-byte-requires : tie.Need-feed-byte-requires Inv-loop μ-loop
-feed-byte-requires c κs = ?
+feed-byte-requires c κs = let l = c .before .before .before .before .before .before in length-part (l .loop .output) (l .loop .put) (l .loop .put + 70 - l .loop .put) (omega (arith, room (c .before .before .before .before .before))) ∙ omega arith
 
--- src/lib.rt:372:9
 add-put : tie.Need-add-put Inv-loop μ-loop
-add-put c = ?
+add-put c = let k = c .before .before .before .before .before .before .before .before .before .before .feed-byte .ensures in let s = small (c .before .before .before .before .before .before .before .before .before .before .before .before .before .before .before .before) in omega (arith, s .1, k .count, k .fits)
 
--- src/lib.rt:373:9
 add-i : tie.Need-add-i Inv-loop μ-loop
-add-i c = ?
+add-i c = let s = small (c .before .before .before .before .before .before .before .before .before .before .before .before .before .before .before .before) in omega (arith, s .0)
 
--- src/lib.rt:360:5
 loop-less : tie.Need-loop-less Inv-loop μ-loop
-loop-less c = ?
+loop-less c = omega (arith, more (c .before .before .before .before .before .before .before .before .before .before .before .before .before .before .before .before))
 
--- src/lib.rt:360:5
 loop-again : tie.Need-loop-again Inv-loop μ-loop
-loop-again c = ?
+loop-again c = let q = c .before .before .before .before .before .before .before .before .before .before .before .before .before .before .before .before in let l = q .before in let a = q .before .before .before .before .before .before .before .before .args in let k = c .before .before .before .before .before .before .before .before .before .before in (fed-next pagesPerFile (a .input .now) (deviceOf (mediaOf (a .media .now) (a .sizes .now)) (a .frames .now) (a .session .cache)) (a .session .line) (a .output .now) (l .loop .i) _ _ _ _ (l .loop .output) _ (l .loop .put) _ (l .loop .put + 70) (l .loop .inv .0) (more q) refl (room q) (k .feed-byte .ensures), k .feed-byte .kept .0 ∙ l .loop .inv .1, k .feed-byte .kept .1 .0 ∙ l .loop .inv .2, k .feed-byte .kept .1 .1 .0 ∙ l .loop .inv .3, length-put (l .loop .put) (l .loop .put + 70) (l .loop .output) (k .feed-byte .last .1 .1 .1 .1 .1 .0) (k .feed-byte .kept .1 .1 .1 .1 .1 .0 ∙ length-part (l .loop .output) (l .loop .put) (l .loop .put + 70 - l .loop .put) (omega (arith, room q))) (omega arith) (room q) ∙ l .loop .inv .4)
 
--- src/lib.rt:340:1
 same-length : tie.Need-same-length Inv-loop μ-loop
-same-length c = ?
+same-length c = c .before .loop .inv .1
 
--- src/lib.rt:340:1
 same-length-2 : tie.Need-same-length-2 Inv-loop μ-loop
-same-length-2 c = ?
+same-length-2 c = c .before .loop .inv .2
 
--- src/lib.rt:340:1
 same-length-3 : tie.Need-same-length-3 Inv-loop μ-loop
-same-length-3 c = ?
+same-length-3 c = c .before .loop .inv .3
 
--- src/lib.rt:340:1
 same-length-4 : tie.Need-same-length-4 Inv-loop μ-loop
-same-length-4 c = ?
+same-length-4 c = c .before .loop .inv .4
 
--- src/lib.rt:340:1
 returns-2 : tie.Need-returns-2 Inv-loop μ-loop
-returns-2 c = ?
+returns-2 c = let l = c .before in let a = l .before .before .before .before .before .before .before .args in fed-all pagesPerFile (a .input .now) (deviceOf (mediaOf (a .media .now) (a .sizes .now)) (a .frames .now) (a .session .cache)) (a .session .line) (a .output .now) (l .loop .i) _ _ _ _ (l .loop .inv .0) (omega arith) (omega arith)
 
 pub feed-spec : {M : Type 1} → statement M
 feed-spec =

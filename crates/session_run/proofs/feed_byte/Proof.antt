@@ -6,7 +6,7 @@ use lib.ListN.{length}
 use Rattle.media.specs.Geometry.{pagesPerFile}
 use Rattle.media.specs.Write.{mediaOf}
 use Rattle.device.specs.Device.{deviceOf}
-use Rattle.session_line.proofs.Grammar.{length-front}
+use Rattle.memory.proofs.Bytes.{length-front}
 use Rattle.session_run.specs.Feeding.{restarted, keptBytes}
 use Rattle.session_run.proofs.Steps.{kept-line, stepped-end, stepped-on}
 use borrow.Author.Needs.{needs}

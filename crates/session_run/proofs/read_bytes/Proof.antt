@@ -4,7 +4,7 @@ use native.Mathlib.Omega.{arith}
 use lib.ListN.{length, take}
 use Rattle.device.specs.Admission.{give}
 use Rattle.session_run.specs.Steps.{noBytes}
-use Rattle.session_line.proofs.Grammar.{length-front}
+use Rattle.memory.proofs.Bytes.{length-front}
 use Rattle.session_run.proofs.Steps.{take-none, length-none, take-front}
 use borrow.Author.Needs.{needs}
 use Rattle.session_run.proofs.read_bytes.Statement.{statement}

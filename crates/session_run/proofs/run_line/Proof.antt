@@ -10,7 +10,7 @@ use Rattle.media.specs.Geometry.{pagesPerFile}
 use Rattle.media.specs.Write.{mediaOf}
 use Rattle.device.specs.Device.{Device, deviceOf}
 use Rattle.session_line.specs.Reply.{replyLine}
-use Rattle.session_line.proofs.Grammar.{length-front}
+use Rattle.memory.proofs.Bytes.{length-front}
 use Rattle.session_run.specs.Session.{runLine}
 use Rattle.session_run.specs.Feeding.{runInto}
 use Rattle.session_run.proofs.Steps.{shown-few, text-fits, print-count, run-ends}

@@ -3,7 +3,7 @@ use mathlib.Core.Path.{_≡_, sym, ap, _∙_}
 use native.Mathlib.Omega.{arith}
 use lib.ListN.{length, take}
 use Rattle.session_run.specs.Steps.{sameBytes}
-use Rattle.session_line.proofs.Grammar.{length-front}
+use Rattle.memory.proofs.Bytes.{length-front}
 use Rattle.session_run.proofs.Steps.{take-same, length-same}
 use borrow.Author.Needs.{needs}
 use Rattle.session_run.proofs.write_bytes.Statement.{statement}

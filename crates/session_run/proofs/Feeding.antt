@@ -1,0 +1,99 @@
+-- Laws of feeding a session: one block after another, one byte after another, and the ends of the calls.
+use mathlib.Core.Path.{_≡_, refl, sym, ap, _∙_}
+use mathlib.Core.List.{List, [], _∷_, _++_, append-nil, append-assoc}
+use Prim.Native.Nat.{ℕ, _+_, _-_, _*_, _/_, _<_, _≤_, min}
+use native.Mathlib.Omega.{arith}
+use native.Mathlib.Numerals.{add-one}
+use lib.Dec.{leb}
+use lib.ListN.{length, getD, take, length-append}
+use lib.Seq.{take-suc, take-all}
+use borrow.Author.Tests.{eq-eqb, ne-eqb, le-leb, lt-leb}
+use borrow.Rule.Slice.PartMut.{putMid}
+use Rattle.answer.specs.Coded.{done, SHAPE}
+use Rattle.memory.specs.Bytes.{part, overwrite}
+use Rattle.memory.proofs.Bytes.{overwrite-none, overwrite-join, put-copy}
+use Rattle.memory.proofs.Cases.{split-eq}
+use Rattle.device.specs.Device.{Device}
+use Rattle.device.specs.Admission.{give}
+use Rattle.session_line.specs.Grammar.{LF}
+use Rattle.session_run.specs.declared.PartialLine.{PartialLine}
+use Rattle.session_run.specs.Feeding.{Fed, fed, after, feedByte, feed, feedAll, lastEnd, replyBytes, desk, feedBlock}
+use Rattle.session_run.specs.Steps.{Stepped}
+use Rattle.session_run.specs.Claims.{joined}
+
+-- ---- one block after another
+
+after-after : (s t : List ℕ) (x : Fed) → after s (after t x) ≡ after (s ++ t) x
+after-after s t x = ap (fed (x .device) (x .line)) (sym (append-assoc s t (x .text)))
+
+module _ (P : ℕ) where
+  pub feed-join : (xs ys : List ℕ) (d : Device) (p : PartialLine) → after (feed P xs d p .text) (feed P ys (feed P xs d p .device) (feed P xs d p .line)) ≡ feed P (xs ++ ys) d p
+  feed-join [] ys d p = refl
+  feed-join (x ∷ xs) ys d p =
+      let y : Fed = feedByte P x d p in
+      rw (← feed-join xs ys (y .device) (y .line)) (sym (after-after (y .text) (feed P xs (y .device) (y .line) .text) _))
+
+  pub blocks-joined : (blocks : List (List ℕ)) (d : Device) (p : PartialLine) → feedAll P blocks d p ≡ feed P (joined blocks) d p
+  blocks-joined [] d p = refl
+  blocks-joined (b ∷ bs) d p = rw (blocks-joined bs (feed P b d p .device) (feed P b d p .line)) (feed-join b (joined bs) d p)
+
+-- ---- one byte after another
+
+module _ (P : ℕ) (input : List ℕ) (d₀ : Device) (p₀ : PartialLine) where
+  one-more : (i : ℕ) → i < length input
+      → let y : Fed = feed P (take i input) d₀ p₀ in feed P (take (i + 1) input) d₀ p₀ ≡ after (y .text) (feedByte P (getD input i 0) (y .device) (y .line))
+  one-more i h =
+      let y : Fed = feed P (take i input) d₀ p₀ in
+      let x : Fed = feedByte P (getD input i 0) (y .device) (y .line) in
+      rw (add-one, take-suc input i 0 h)
+      (sym (feed-join P (take i input) (getD input i 0 ∷ []) d₀ p₀) ∙ ap (λ t. fed (x .device) (x .line) (y .text ++ t)) (append-nil (x .text)))
+
+  module _ (before : List ℕ) where
+    -- the first i bytes were taken
+    abbrev pub FedTo : ℕ → Device → PartialLine → List ℕ → ℕ → Type 0
+    FedTo i d p out put = Stepped (replyBytes * i) (feed P (take i input) d₀ p₀) d p before out put
+
+    pub fed-none : FedTo 0 d₀ p₀ before 0
+    fed-none = record { device = refl; partial = refl; bytes = sym (overwrite-none before 0); count = refl; fits = omega arith }
+
+    -- there is room for one more line
+    pub fed-room : (i : ℕ) (d : Device) (p : PartialLine) (out : List ℕ) (put : ℕ) → FedTo i d p out put → i < length input
+        → length input ≤ length before / replyBytes → length out ≡ length before → put + replyBytes ≤ length out
+    fed-room i d p out put s h room e = omega (arith, s .count, s .fits, room, e)
+
+    pub fed-next : (i : ℕ) (d next : Device) (p q : PartialLine) (out left : List ℕ) (put n e : ℕ) → FedTo i d p out put → i < length input
+        → e ≡ put + replyBytes → e ≤ length out
+        → Stepped replyBytes (feedByte P (getD input i 0) d p) next q (part out put (e - put)) left n
+        → FedTo (i + 1) next q (putMid put (e - put) out left) (put + n)
+    fed-next i d next p q out left put n e s h ee eo t =
+        let y : Fed = feed P (take i input) d₀ p₀ in
+        let z : Fed = feedByte P (getD input i 0) (y .device) (y .line) in
+        let u : Stepped replyBytes z next q (part out put (e - put)) left n = rw (s .device, s .partial) at t in
+        let m : length (y .text ++ z .text) ≡ length (y .text) + length (z .text) = length-append (y .text) (z .text) in
+        rw (one-more i h)
+        (record {
+          device = u .device;
+          partial = u .partial;
+          bytes = put-copy put e out left (z .text) (u .bytes) (omega (arith, u .fits, ee)) (omega arith) eo ∙ rw (s .bytes, s .count) (sym (overwrite-join before (y .text) (z .text)));
+          count = omega (arith, s .count, u .count, m);
+          fits = omega (arith, s .fits, u .fits, m) })
+
+    pub fed-all : (i : ℕ) (d : Device) (p : PartialLine) (out : List ℕ) (put : ℕ) → FedTo i d p out put → length input ≤ i → replyBytes * length input ≤ length before
+        → give (done put) (desk d p out) ≡ feedBlock P input (desk d₀ p₀ before)
+    unfolding feedBlock
+    fed-all i d p out put s h room =
+        let y : Fed = feed P input d₀ p₀ in
+        let w : Stepped (replyBytes * i) y d p before out put = rw (take-all i input h) at s in
+        rw (le-leb _ _ room, w .device, w .partial, w .bytes, w .count)
+
+    pub fed-refused : length before / replyBytes < length input → give SHAPE (desk d₀ p₀ before) ≡ feedBlock P input (desk d₀ p₀ before)
+    unfolding feedBlock
+    fed-refused h = let k : length before < replyBytes * length input = omega arith in rw (lt-leb _ _ k)
+
+-- ---- the end of the input
+
+pub last-end : (p : PartialLine) (n : ℕ) → n ≡ min (p .length) 1 → take n (LF ∷ []) ≡ lastEnd p
+last-end p n e =
+    split-eq (p .length) 0
+    (λ q. let z : n ≡ 0 = omega (arith, e) in rw (z, eq-eqb _ _ q))
+    (λ q. let o : n ≡ 1 = omega (arith, e, q) in rw (o, ne-eqb _ _ q))
