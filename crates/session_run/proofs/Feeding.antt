@@ -76,7 +76,8 @@ module _ (P : ℕ) (input : List ℕ) (d₀ : Device) (p₀ : PartialLine) where
           partial = u .partial;
           bytes = put-copy put e out left (z .text) (u .bytes) (omega (arith, u .fits, ee)) (omega arith) eo ∙ rw (s .bytes, s .count) (sym (overwrite-join before (y .text) (z .text)));
           count = omega (arith, s .count, u .count, m);
-          fits = omega (arith, s .fits, u .fits, m) })
+          fits = omega (arith, s .fits, u .fits, m);
+        })
 
     pub fed-all : (i : ℕ) (d : Device) (p : PartialLine) (out : List ℕ) (put : ℕ) → FedTo i d p out put → length input ≤ i → replyBytes * length input ≤ length before
         → give (done put) (desk d p out) ≡ feedBlock P input (desk d₀ p₀ before)

@@ -142,8 +142,8 @@ unfolding lineOf
 kept-line p n h e =
     split-lt keptBytes (p .length)
     (λ k. let a : length (p .bytes) ≤ n = omega (arith, h, e) in
-      let b : length (p .bytes) ≤ p .length = omega (arith, h) in
-      rw (take-all n (p .bytes) a, take-all (p .length) (p .bytes) b))
+    let b : length (p .bytes) ≤ p .length = omega (arith, h) in
+    rw (take-all n (p .bytes) a, take-all (p .length) (p .bytes) b))
     (λ k. let a : n ≡ p .length = omega (arith, e) in ap (λ (j : ℕ). take j (p .bytes)) a)
 
 -- the line has ended, and was run
@@ -162,7 +162,8 @@ stepped-end P b d p line output left after a n eb el h en e =
       partial = refl;
       bytes = ap (λ (x : Result (Device × List ℕ)). x .left .1) q;
       count = en ∙ m;
-      fits = omega (arith, m, e .1) })
+      fits = omega (arith, m, e .1);
+    })
 
 -- the line goes on
 pub stepped-on : (P b : ℕ) (d : Device) (p : PartialLine) (output : List ℕ) → b ≢ LF → Stepped replyBytes (feedByte P b d p) d (pushed b p) output output 0

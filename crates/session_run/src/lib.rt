@@ -336,8 +336,8 @@ fn feed_byte(
     }
 }
 
-// Takes a block of input, prints what it gives at the front of the output, and counts it. SHAPE, and nothing is taken, where the
-// output has less room than 70 bytes for each byte of the block; the rest of the output keeps its bytes.
+// Takes a block of input, prints what it gives at the front of the output, and counts it; the rest of the output keeps its bytes.
+// SHAPE, and nothing is taken, where the output has less room than 70 bytes for each byte of the block.
 pub fn feed(
     media: &mut [u8],
     sizes: &mut [u32],
@@ -346,8 +346,9 @@ pub fn feed(
     input: &[u8],
     output: &mut [u8],
 ) -> Fed
-    ensures { λ r. ⌜ give (coded (r .answer)) (desk (deviceOf (mediaOf (now (media .exit)) (now (sizes .exit))) (now (frames .exit)) (r .session .cache)) (r .session .line) (now (output .exit)))
-        ≡ feedBlock pagesPerFile (now (input .entry)) (desk (deviceOf (mediaOf (now (media .entry)) (now (sizes .entry))) (now (frames .entry)) (session .cache)) (session .line) (now (output .entry))) ⌝ }
+    ensures { λ r. ⌜ (give (coded (r .answer)) (desk (deviceOf (mediaOf (now (media .exit)) (now (sizes .exit))) (now (frames .exit)) (r .session .cache)) (r .session .line) (now (output .exit)))
+        ≡ feedBlock pagesPerFile (now (input .entry)) (desk (deviceOf (mediaOf (now (media .entry)) (now (sizes .entry))) (now (frames .entry)) (session .cache)) (session .line) (now (output .entry))))
+        × ((coded (r .answer)) .count ≤ length (now (output .entry))) ⌝ }
 {
     if output.len() / REPLY_BYTES < input.len() {
         return Fed {
@@ -379,7 +380,7 @@ pub fn feed(
     }
 }
 
-// Ends the input: a last line that lacks its LF is run.
+// Ends the input: a last line that lacks its LF is run. SHAPE where there is one, and the output has less room than 70 bytes.
 pub fn finish(
     media: &mut [u8],
     sizes: &mut [u32],
@@ -387,8 +388,9 @@ pub fn finish(
     session: Session,
     output: &mut [u8],
 ) -> Fed
-    ensures { λ r. ⌜ give (coded (r .answer)) (desk (deviceOf (mediaOf (now (media .exit)) (now (sizes .exit))) (now (frames .exit)) (r .session .cache)) (r .session .line) (now (output .exit)))
-        ≡ feedBlock pagesPerFile (lastEnd (session .line)) (desk (deviceOf (mediaOf (now (media .entry)) (now (sizes .entry))) (now (frames .entry)) (session .cache)) (session .line) (now (output .entry))) ⌝ }
+    ensures { λ r. ⌜ (give (coded (r .answer)) (desk (deviceOf (mediaOf (now (media .exit)) (now (sizes .exit))) (now (frames .exit)) (r .session .cache)) (r .session .line) (now (output .exit)))
+        ≡ feedBlock pagesPerFile (lastEnd (session .line)) (desk (deviceOf (mediaOf (now (media .entry)) (now (sizes .entry))) (now (frames .entry)) (session .cache)) (session .line) (now (output .entry))))
+        × ((coded (r .answer)) .count ≤ length (now (output .entry))) ⌝ }
 {
     let ends = [b'\n'];
     let line = session.line;

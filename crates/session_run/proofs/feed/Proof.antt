@@ -21,6 +21,7 @@ Inv-loop media₀ sizes₀ frames₀ input output₀ current₀ put₀ i₀ medi
     × (length sizes ≡ length sizes₀)
     × (length frames ≡ length frames₀)
     × (length output ≡ length output₀)
+    × (i ≤ length input)
 
 abbrev μ-loop : tie.MeasureT-loop
 μ-loop media₀ sizes₀ frames₀ input output₀ current₀ put₀ i₀ media sizes frames output current put i = length input - i
@@ -40,10 +41,10 @@ small : (q : tie.In-loop Inv-loop μ-loop) → (q .before .loop .i + 1 < 2 ^ 64)
 small q = (omega (arith, more q), omega (arith, room q))
 
 returns : tie.Need-returns Inv-loop μ-loop
-returns c = let a = c .before .before .before .before .before .before .args in fed-refused pagesPerFile (a .input .now) (deviceOf (mediaOf (a .media .now) (a .sizes .now)) (a .frames .now) (a .session .cache)) (a .session .line) (a .output .now) (c .if1 .taken)
+returns c = let a = c .before .before .before .before .before .before .args in (fed-refused pagesPerFile (a .input .now) (deviceOf (mediaOf (a .media .now) (a .sizes .now)) (a .frames .now) (a .session .cache)) (a .session .line) (a .output .now) (c .if1 .taken), omega arith)
 
 loop-holds : tie.Need-loop-holds Inv-loop μ-loop
-loop-holds c = (fed-none pagesPerFile (c .before .before .before .before .before .before .args .input .now) _ _ _, refl, refl, refl, refl)
+loop-holds c = (fed-none pagesPerFile (c .before .before .before .before .before .before .args .input .now) _ _ _, refl, refl, refl, refl, omega arith)
 
 add-end : tie.Need-add-end Inv-loop μ-loop
 add-end c = omega (arith, room c)
@@ -73,7 +74,7 @@ loop-less : tie.Need-loop-less Inv-loop μ-loop
 loop-less c = omega (arith, more (c .before .before .before .before .before .before .before .before .before .before .before .before .before .before .before .before))
 
 loop-again : tie.Need-loop-again Inv-loop μ-loop
-loop-again c = let q = c .before .before .before .before .before .before .before .before .before .before .before .before .before .before .before .before in let l = q .before in let a = q .before .before .before .before .before .before .before .before .args in let k = c .before .before .before .before .before .before .before .before .before .before in (fed-next pagesPerFile (a .input .now) (deviceOf (mediaOf (a .media .now) (a .sizes .now)) (a .frames .now) (a .session .cache)) (a .session .line) (a .output .now) (l .loop .i) _ _ _ _ (l .loop .output) _ (l .loop .put) _ (l .loop .put + 70) (l .loop .inv .0) (more q) refl (room q) (k .feed-byte .ensures), k .feed-byte .kept .0 ∙ l .loop .inv .1, k .feed-byte .kept .1 .0 ∙ l .loop .inv .2, k .feed-byte .kept .1 .1 .0 ∙ l .loop .inv .3, length-put (l .loop .put) (l .loop .put + 70) (l .loop .output) (k .feed-byte .last .1 .1 .1 .1 .1 .0) (k .feed-byte .kept .1 .1 .1 .1 .1 .0 ∙ length-part (l .loop .output) (l .loop .put) (l .loop .put + 70 - l .loop .put) (omega (arith, room q))) (omega arith) (room q) ∙ l .loop .inv .4)
+loop-again c = let q = c .before .before .before .before .before .before .before .before .before .before .before .before .before .before .before .before in let l = q .before in let a = q .before .before .before .before .before .before .before .before .args in let k = c .before .before .before .before .before .before .before .before .before .before in (fed-next pagesPerFile (a .input .now) (deviceOf (mediaOf (a .media .now) (a .sizes .now)) (a .frames .now) (a .session .cache)) (a .session .line) (a .output .now) (l .loop .i) _ _ _ _ (l .loop .output) _ (l .loop .put) _ (l .loop .put + 70) (l .loop .inv .0) (more q) refl (room q) (k .feed-byte .ensures), k .feed-byte .kept .0 ∙ l .loop .inv .1, k .feed-byte .kept .1 .0 ∙ l .loop .inv .2, k .feed-byte .kept .1 .1 .0 ∙ l .loop .inv .3, length-put (l .loop .put) (l .loop .put + 70) (l .loop .output) (k .feed-byte .last .1 .1 .1 .1 .1 .0) (k .feed-byte .kept .1 .1 .1 .1 .1 .0 ∙ length-part (l .loop .output) (l .loop .put) (l .loop .put + 70 - l .loop .put) (omega (arith, room q))) (omega arith) (room q) ∙ l .loop .inv .4, omega (arith, more q))
 
 same-length : tie.Need-same-length Inv-loop μ-loop
 same-length c = c .before .loop .inv .1
@@ -88,7 +89,7 @@ same-length-4 : tie.Need-same-length-4 Inv-loop μ-loop
 same-length-4 c = c .before .loop .inv .4
 
 returns-2 : tie.Need-returns-2 Inv-loop μ-loop
-returns-2 c = let l = c .before in let a = l .before .before .before .before .before .before .before .args in fed-all pagesPerFile (a .input .now) (deviceOf (mediaOf (a .media .now) (a .sizes .now)) (a .frames .now) (a .session .cache)) (a .session .line) (a .output .now) (l .loop .i) _ _ _ _ (l .loop .inv .0) (omega arith) (omega arith)
+returns-2 c = let l = c .before in let a = l .before .before .before .before .before .before .before .args in let s = l .loop .inv .0 in let k : l .loop .put ≤ length (a .output .now) = omega (arith, s .count, s .fits, l .loop .inv .5) in (fed-all pagesPerFile (a .input .now) (deviceOf (mediaOf (a .media .now) (a .sizes .now)) (a .frames .now) (a .session .cache)) (a .session .line) (a .output .now) (l .loop .i) _ _ _ _ (l .loop .inv .0) (omega arith) (omega arith), k)
 
 pub feed-spec : {M : Type 1} → statement M
 feed-spec =

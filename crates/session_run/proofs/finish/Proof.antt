@@ -34,7 +34,7 @@ same-length-4 : tie.Need-same-length-4
 same-length-4 c = search needs
 
 returns : tie.Need-returns
-returns c = rw (last-end (c .before .before .before .before .before .before .before .before .before .before .before .before .before .before .before .before .before .before .before .before .args .session .line) (c .before .before .before .before .before .before .before .before .before .before .before .before .before .before .min .result) (c .before .before .before .before .before .before .before .before .before .before .before .before .before .before .min .ensures)) at (c .before .before .before .before .before .before .before .before .feed .ensures)
+returns c = (rw (last-end (c .before .before .before .before .before .before .before .before .before .before .before .before .before .before .before .before .before .before .before .before .args .session .line) (c .before .before .before .before .before .before .before .before .before .before .before .before .before .before .min .result) (c .before .before .before .before .before .before .before .before .before .before .before .before .before .before .min .ensures)) at (c .before .before .before .before .before .before .before .before .feed .ensures .0), c .before .before .before .before .before .before .before .before .feed .ensures .1)
 
 pub finish-spec : {M : Type 1} → statement M
 finish-spec =

@@ -67,10 +67,11 @@ returns c =
     let d = deviceOf (mediaOf (a .media .now) (a .sizes .now)) (a .frames .now) (a .cache) in
     let p = c .before .before .before .print .ensures in
     let w : coded (k .make .result .answer) .count < 2 ^ 64 = omega (arith, q .before .count .ensures) in
-    let f = text-fits _ (k .make .result .answer) (k .make .result .shows) (k .make .result .bytes) _ (k .make .ensures) w in
-    (rw (p .0, p .1, shown-is q)
-    (run-ends pagesPerFile (a .line .now) (a .output .now) d (coded (k .make .result .answer)) _ _ (omega arith) (rw (k .before .before .before .before .parse .ensures .0) at (k .make .ensures .ran)) f),
-    rw (p .0) (omega (arith, print-count (replyLine (coded (k .make .result .answer)) (take (q .shown .result) (k .make .result .bytes))) (a .output .now))))
+    let f = text-fits _ (k .make .result .answer) (k .make .result .shows) (k .make .result .bytes) _ (k .make .ensures) w in (
+      rw (p .0, p .1, shown-is q)
+          (run-ends pagesPerFile (a .line .now) (a .output .now) d (coded (k .make .result .answer)) _ _ (omega arith) (rw (k .before .before .before .before .parse .ensures .0) at (k .make .ensures .ran)) f),
+      rw (p .0) (omega (arith, print-count (replyLine (coded (k .make .result .answer)) (take (q .shown .result) (k .make .result .bytes))) (a .output .now))),
+    )
 
 returns-2 : tie.Need-returns-2
 unfolding runInto
