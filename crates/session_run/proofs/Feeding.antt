@@ -17,9 +17,8 @@ use Rattle.device.specs.Device.{Device}
 use Rattle.device.specs.Admission.{give}
 use Rattle.session_line.specs.Grammar.{LF}
 use Rattle.session_run.specs.declared.PartialLine.{PartialLine}
-use Rattle.session_run.specs.Feeding.{Fed, fed, after, feedByte, feed, feedAll, lastEnd, replyBytes, desk, feedBlock}
+use Rattle.session_run.specs.Feeding.{Fed, fed, after, feedByte, feed, lastEnd, replyBytes, stateOf, feedBlock}
 use Rattle.session_run.specs.Steps.{Stepped}
-use Rattle.session_run.specs.Claims.{joined}
 
 -- ---- one block after another
 
@@ -32,10 +31,6 @@ module _ (P : ℕ) where
   feed-join (x ∷ xs) ys d p =
       let y : Fed = feedByte P x d p in
       rw (← feed-join xs ys (y .device) (y .line)) (sym (after-after (y .text) (feed P xs (y .device) (y .line) .text) _))
-
-  pub blocks-joined : (blocks : List (List ℕ)) (d : Device) (p : PartialLine) → feedAll P blocks d p ≡ feed P (joined blocks) d p
-  blocks-joined [] d p = refl
-  blocks-joined (b ∷ bs) d p = rw (blocks-joined bs (feed P b d p .device) (feed P b d p .line)) (feed-join b (joined bs) d p)
 
 -- ---- one byte after another
 
@@ -80,14 +75,14 @@ module _ (P : ℕ) (input : List ℕ) (d₀ : Device) (p₀ : PartialLine) where
         })
 
     pub fed-all : (i : ℕ) (d : Device) (p : PartialLine) (out : List ℕ) (put : ℕ) → FedTo i d p out put → length input ≤ i → replyBytes * length input ≤ length before
-        → give (done put) (desk d p out) ≡ feedBlock P input (desk d₀ p₀ before)
+        → give (done put) (stateOf d p out) ≡ feedBlock P input (stateOf d₀ p₀ before)
     unfolding feedBlock
     fed-all i d p out put s h room =
         let y : Fed = feed P input d₀ p₀ in
         let w : Stepped (replyBytes * i) y d p before out put = rw (take-all i input h) at s in
         rw (le-leb _ _ room, w .device, w .partial, w .bytes, w .count)
 
-    pub fed-refused : length before / replyBytes < length input → give SHAPE (desk d₀ p₀ before) ≡ feedBlock P input (desk d₀ p₀ before)
+    pub fed-refused : length before / replyBytes < length input → give SHAPE (stateOf d₀ p₀ before) ≡ feedBlock P input (stateOf d₀ p₀ before)
     unfolding feedBlock
     fed-refused h = let k : length before < replyBytes * length input = omega arith in rw (lt-leb _ _ k)
 

@@ -77,17 +77,17 @@ runInto P line x =
     admit (test (eqb (length (x .1)) replyBytes) SHAPE ∷ []) x (give (done (length (text r))) (r .device, overwrite (x .1) 0 (text r)))
 
 -- what `feed` borrows
-pub record Desk : Type 0 where
+pub record State : Type 0 where
   pub device : Device
   pub line : PartialLine
   pub output : List ℕ
 
-abbrev pub desk : Device → PartialLine → List ℕ → Desk
-desk device line output = record { device = device; line = line; output = output }
+abbrev pub stateOf : Device → PartialLine → List ℕ → State
+stateOf device line output = record { device = device; line = line; output = output }
 
 -- a block of input. SHAPE where the output has less room than a line for each byte of it
-unfoldable pub feedBlock : ℕ → List ℕ → Desk → Result Desk
+unfoldable pub feedBlock : ℕ → List ℕ → State → Result State
 feedBlock P input x =
     let y : Fed = feed P input (x .device) (x .line) in
     admit (test (leb (replyBytes * length input) (length (x .output))) SHAPE ∷ []) x
-    (give (done (length (y .text))) (desk (y .device) (y .line) (overwrite (x .output) 0 (y .text))))
+    (give (done (length (y .text))) (stateOf (y .device) (y .line) (overwrite (x .output) 0 (y .text))))

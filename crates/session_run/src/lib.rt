@@ -23,7 +23,7 @@ ghost use Rattle.session_line.specs.Request.{spelled};
 ghost use Rattle.session_line.specs.Reply.{header};
 ghost use Rattle.session_line.specs.Rest.{Within};
 ghost use Rattle.session_run.specs.Session.{run};
-ghost use Rattle.session_run.specs.Feeding.{replyBytes, noLine, pushed, lastEnd, feedByte, runInto, desk, feedBlock};
+ghost use Rattle.session_run.specs.Feeding.{replyBytes, noLine, pushed, lastEnd, feedByte, runInto, stateOf, feedBlock};
 ghost use Rattle.session_run.specs.Steps.{noBytes, sameBytes, Made, Stepped};
 
 // The greatest length of a line that is printed.
@@ -45,7 +45,7 @@ pub struct Session {
 }
 
 // What a block of input gives: as count the bytes that it printed, and the session after it.
-pub struct Fed {
+pub struct SessionOutcome {
     pub answer: Answer,
     pub session: Session,
 }
@@ -345,13 +345,13 @@ pub fn feed(
     session: Session,
     input: &[u8],
     output: &mut [u8],
-) -> Fed
-    ensures { λ r. ⌜ (give (coded (r .answer)) (desk (deviceOf (mediaOf (now (media .exit)) (now (sizes .exit))) (now (frames .exit)) (r .session .cache)) (r .session .line) (now (output .exit)))
-        ≡ feedBlock pagesPerFile (now (input .entry)) (desk (deviceOf (mediaOf (now (media .entry)) (now (sizes .entry))) (now (frames .entry)) (session .cache)) (session .line) (now (output .entry))))
+) -> SessionOutcome
+    ensures { λ r. ⌜ (give (coded (r .answer)) (stateOf (deviceOf (mediaOf (now (media .exit)) (now (sizes .exit))) (now (frames .exit)) (r .session .cache)) (r .session .line) (now (output .exit)))
+        ≡ feedBlock pagesPerFile (now (input .entry)) (stateOf (deviceOf (mediaOf (now (media .entry)) (now (sizes .entry))) (now (frames .entry)) (session .cache)) (session .line) (now (output .entry))))
         × ((coded (r .answer)) .count ≤ length (now (output .entry))) ⌝ }
 {
     if output.len() / REPLY_BYTES < input.len() {
-        return Fed {
+        return SessionOutcome {
             answer: Answer::Refused(Refusal::Shape),
             session,
         };
@@ -374,7 +374,7 @@ pub fn feed(
         put += step.count;
         i += 1;
     }
-    Fed {
+    SessionOutcome {
         answer: Answer::Done(put),
         session: current,
     }
@@ -387,9 +387,9 @@ pub fn finish(
     frames: &mut [u8],
     session: Session,
     output: &mut [u8],
-) -> Fed
-    ensures { λ r. ⌜ (give (coded (r .answer)) (desk (deviceOf (mediaOf (now (media .exit)) (now (sizes .exit))) (now (frames .exit)) (r .session .cache)) (r .session .line) (now (output .exit)))
-        ≡ feedBlock pagesPerFile (lastEnd (session .line)) (desk (deviceOf (mediaOf (now (media .entry)) (now (sizes .entry))) (now (frames .entry)) (session .cache)) (session .line) (now (output .entry))))
+) -> SessionOutcome
+    ensures { λ r. ⌜ (give (coded (r .answer)) (stateOf (deviceOf (mediaOf (now (media .exit)) (now (sizes .exit))) (now (frames .exit)) (r .session .cache)) (r .session .line) (now (output .exit)))
+        ≡ feedBlock pagesPerFile (lastEnd (session .line)) (stateOf (deviceOf (mediaOf (now (media .entry)) (now (sizes .entry))) (now (frames .entry)) (session .cache)) (session .line) (now (output .entry))))
         × ((coded (r .answer)) .count ≤ length (now (output .entry))) ⌝ }
 {
     let ends = [b'\n'];

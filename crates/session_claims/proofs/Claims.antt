@@ -17,11 +17,17 @@ use Rattle.scan.proofs.Scan.{and-left, and-right}
 use Rattle.device.specs.Device.{Device}
 use Rattle.session_line.specs.Grammar.{parse, lines, LF, greatestLine, malformed, inFirst}
 use Rattle.session_line.specs.Reply.{header}
 use Rattle.session_run.specs.declared.PartialLine.{PartialLine}
 use Rattle.session_run.specs.Session.{Ran, text, run, runLine, answers, startDevice, output}
 use Rattle.session_run.specs.Feeding.{keptBytes, noLine, pushed, restarted, lineOf, Fed, fed, after, feedByte, feed, feedAll, lastEnd}
-use Rattle.session_run.specs.Claims.{joined, printedInBlocks, AnyBlocks}
-use Rattle.session_run.proofs.Feeding.{blocks-joined}
+use Rattle.session_run.proofs.Feeding.{feed-join}
+use Rattle.session_claims.specs.Claims.{joined, printedInBlocks, AnyBlocks}
+
+-- ---- one block after another
+
+blocks-joined : (P : ℕ) (blocks : List (List ℕ)) (d : Device) (p : PartialLine) → feedAll P blocks d p ≡ feed P (joined blocks) d p
+blocks-joined P [] d p = refl
+blocks-joined P (b ∷ bs) d p = rw (blocks-joined P bs (feed P b d p .device) (feed P b d p .line)) (feed-join P b (joined bs) d p)
 
 -- ---- lines
 
