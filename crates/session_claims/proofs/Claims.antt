@@ -1,25 +1,25 @@
 -- However the input is cut into blocks, the session prints what it is said to print.
 use mathlib.Core.Path.{_≡_, refl, sym, ap, _∙_}
 use mathlib.Core.Logic.{_≢_}
-use mathlib.Core.Bool.{Bool, true, false, cond, _&&_, not, false≢true}
+use mathlib.Core.Bool.{Bool, true, false, not, false≢true}
 use mathlib.Core.List.{List, [], _∷_, _++_, append-nil, append-assoc}
-use Prim.Native.Nat.{ℕ, zero, suc, _+_, _-_, _<_, _≤_, min}
+use Prim.Native.Nat.{ℕ, _+_, _<_, _≤_, min}
 use native.Mathlib.Omega.{arith}
 use native.Mathlib.Numerals.{add-one}
-use lib.Dec.{eqb, ltb, leb}
-use lib.ListN.{length, getD, set, take, length-set, length-take, length-append}
+use lib.Dec.{eqb}
+use lib.ListN.{length, take, length-set, length-take, length-append}
 use lib.Seq.{take-all, take-suc-set, take-append-le}
-use borrow.Author.Tests.{eqb-true, eqb-false, eq-eqb, ne-eqb, lt-ltb, le-ltb, lt-leb, le-leb}
+use borrow.Author.Tests.{eq-eqb, ne-eqb, lt-ltb, le-ltb, lt-leb}
 use borrow.Table.Steps.{cases}
 use Rattle.memory.proofs.Cases.{split-lt, split-eq}
 use Rattle.scan.specs.Scan.{every}
 use Rattle.scan.proofs.Scan.{and-left, and-right}
 use Rattle.device.specs.Device.{Device}
-use Rattle.session_line.specs.Grammar.{parse, lines, LF, greatestLine, malformed, inFirst}
+use Rattle.session_line.specs.Grammar.{parse, lines, LF, greatestLine, inFirst}
 use Rattle.session_line.specs.Reply.{header}
 use Rattle.session_run.specs.declared.PartialLine.{PartialLine}
-use Rattle.session_run.specs.Session.{Ran, text, run, runLine, answers, startDevice, output}
-use Rattle.session_run.specs.Feeding.{keptBytes, noLine, pushed, restarted, lineOf, Fed, fed, after, feedByte, feed, feedAll, lastEnd}
+use Rattle.session_run.specs.Session.{text, run, runLine, answers, startDevice, output}
+use Rattle.session_run.specs.Feeding.{keptBytes, noLine, pushed, restarted, lineOf, Fed, after, feedByte, feed, feedAll, lastEnd}
 use Rattle.session_run.proofs.Feeding.{feed-join}
 use Rattle.session_claims.specs.Claims.{joined, printedInBlocks, AnyBlocks}
 
@@ -91,7 +91,9 @@ keeps-pushed p line b k n =
     let space : p .length < length (p .bytes) = omega (arith, k .room) in
     rw (lt-ltb _ _ h)
     (record {
-      kept = rw (add-one, take-suc-set (p .bytes) (p .length) b space, k .kept, take-all keptBytes line whole, take-all keptBytes (line ++ (b ∷ [])) more);
+      kept =
+          rw
+          (add-one, take-suc-set (p .bytes) (p .length) b space, k .kept, take-all keptBytes line whole, take-all keptBytes (line ++ (b ∷ [])) more);
       count = omega (arith, k .count, m);
       room = length-set (p .bytes) (p .length) b ∙ k .room;
       unended = o;
@@ -140,4 +142,5 @@ module _ (P : ℕ) where
 
 pub any-blocks : AnyBlocks
 unfolding printedInBlocks output rest
-any-blocks P blocks = rw (blocks-joined P blocks (startDevice P) noLine) (ap (λ t. header ++ t) (rest-lines P (joined blocks) (startDevice P) noLine [] keeps-none))
+any-blocks P blocks =
+    rw (blocks-joined P blocks (startDevice P) noLine) (ap (λ t. header ++ t) (rest-lines P (joined blocks) (startDevice P) noLine [] keeps-none))

@@ -1,7 +1,7 @@
 -- The program as a whole: however its input is cut into blocks, it prints what document 01 says.
-use Prim.Native.Nat.{ℕ}
 use mathlib.Core.Path.{_≡_}
 use mathlib.Core.List.{List, [], _∷_, _++_}
+use Prim.Native.Nat.{ℕ}
 use Rattle.session_line.specs.Reply.{header}
 use Rattle.session_run.specs.Session.{startDevice, output}
 use Rattle.session_run.specs.Feeding.{Fed, feed, feedAll, noLine, lastEnd}

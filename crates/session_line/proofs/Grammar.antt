@@ -1,23 +1,23 @@
 -- Laws of the grammar: fields one by one, numbers, and the form of a letter.
-use mathlib.Core.Path.{_≡_, refl, sym, ap, _∙_}
+use mathlib.Core.Path.{_≡_, refl, sym, _∙_}
 use mathlib.Core.Logic.{_≢_}
 use mathlib.Core.Bool.{Bool, true, false, cond, _&&_, false≢true}
 use mathlib.Core.List.{List, [], _∷_, map, _++_, append-nil, append-assoc}
 use Prim.Native.Nat.{ℕ, zero, suc, _+_, _-_, _*_, _^_, _<_, _≤_}
 use native.Mathlib.Omega.{arith}
-use native.Mathlib.Nat.{not-suc-le-zero, le-of-suc-le-suc, pow-succ', pow-le-pow-right, lt-of-lt-of-le, min-eq-left}
+use native.Mathlib.Nat.{not-suc-le-zero, le-of-suc-le-suc, pow-succ', pow-le-pow-right, lt-of-lt-of-le}
 use native.Mathlib.Numerals.{add-one}
 use lib.Dec.{eqb, leb}
-use lib.ListN.{length, getD, set, take, drop, drop-of-length-le, length-drop, length-take}
+use lib.ListN.{length, getD, set, take, drop, drop-of-length-le, length-drop}
 use lib.Seq.{drop-cons, drop-drop, take-suc-set, take-all, getD-take}
-use borrow.Author.Tests.{eqb-true, leb-true, eq-eqb, ne-eqb, le-leb, lt-leb}
+use borrow.Author.Tests.{leb-true, eq-eqb, ne-eqb, le-leb, lt-leb}
 use borrow.Table.Steps.{cases}
 use Rattle.memory.proofs.Bytes.{length-front}
 use Rattle.memory.proofs.Cases.{split-eq}
 use Rattle.scan.specs.Scan.{every, firstIndex}
 use Rattle.scan.proofs.Scan.{and-left, and-right, allOf-at, every-at, first-le}
-use Rattle.session_line.specs.Grammar.{isDigit, valueFrom, value, isNumber, comma, fields, inFirst, Form, forms, numbersFit, isLetter, hasForm, Command, command, malformed, byForms, greatestLine, parse, F, M, W, T, S, R}
-use Rattle.session_line.specs.Rest.{isComma, restFields, limitsIn, limitsOf, withValues, Fitting, Values}
+use Rattle.session_line.specs.Grammar.{isDigit, valueFrom, value, isNumber, comma, fields, Form, forms, numbersFit, Command, command, malformed, byForms, greatestLine, parse, F, M, W, T, S, R}
+use Rattle.session_line.specs.Rest.{isComma, restFields, limitsOf, withValues, Fitting, Values}
 
 -- ---- fields
 
@@ -176,7 +176,9 @@ module _ (line limits values : List ℕ) (at i : ℕ) (p : Parsing line limits v
       parsing-next e l =
           rw (add-one i) (record {
             fits = rw (drop-cons limits i 0 h, rest-split line at k, e) at (p .fits);
-            read = p .read ∙ rw (rest-split line at k, take-suc-set values i (value (fieldAfter line at)) l) (sym (append-assoc (take i values) (value (fieldAfter line at) ∷ []) _));
+            read =
+                p .read ∙ rw (rest-split line at k, take-suc-set values i (value (fieldAfter line at)) l)
+                (sym (append-assoc (take i values) (value (fieldAfter line at) ∷ []) _));
             within = end-within line at k;
           })
 

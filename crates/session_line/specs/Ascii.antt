@@ -1,9 +1,9 @@
 -- Texts as bytes.
+use mathlib.Core.List.{List, [], _∷_}
 use Prim.Native.Nat.{ℕ}
-use Prim.Native.Char.{Char, code}
+use Prim.Native.Char.{code}
 use Prim.Native.String.{String}
 use Prim.Native.String as Text
-use mathlib.Core.List.{List, [], _∷_}
 
 abbrev pub ascii : String → List ℕ
 ascii Text.[] = []

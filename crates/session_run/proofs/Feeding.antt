@@ -4,13 +4,12 @@ use mathlib.Core.List.{List, [], _∷_, _++_, append-nil, append-assoc}
 use Prim.Native.Nat.{ℕ, _+_, _-_, _*_, _/_, _<_, _≤_, min}
 use native.Mathlib.Omega.{arith}
 use native.Mathlib.Numerals.{add-one}
-use lib.Dec.{leb}
 use lib.ListN.{length, getD, take, length-append}
 use lib.Seq.{take-suc, take-all}
 use borrow.Author.Tests.{eq-eqb, ne-eqb, le-leb, lt-leb}
 use borrow.Rule.Slice.PartMut.{putMid}
 use Rattle.answer.specs.Coded.{done, SHAPE}
-use Rattle.memory.specs.Bytes.{part, overwrite}
+use Rattle.memory.specs.Bytes.{part}
 use Rattle.memory.proofs.Bytes.{overwrite-none, overwrite-join, put-copy}
 use Rattle.memory.proofs.Cases.{split-eq}
 use Rattle.device.specs.Device.{Device}
@@ -69,7 +68,9 @@ module _ (P : ℕ) (input : List ℕ) (d₀ : Device) (p₀ : PartialLine) where
         (record {
           device = u .device;
           partial = u .partial;
-          bytes = put-copy put e out left (z .text) (u .bytes) (omega (arith, u .fits, ee)) (omega arith) eo ∙ rw (s .bytes, s .count) (sym (overwrite-join before (y .text) (z .text)));
+          bytes =
+              put-copy put e out left (z .text) (u .bytes) (omega (arith, u .fits, ee)) (omega arith) eo ∙ rw (s .bytes, s .count)
+              (sym (overwrite-join before (y .text) (z .text)));
           count = omega (arith, s .count, u .count, m);
           fits = omega (arith, s .fits, u .fits, m);
         })

@@ -1,7 +1,7 @@
 -- A session that is fed its input in blocks, cut anywhere.
-use Prim.Native.Nat.{ℕ, _+_, _*_}
 use mathlib.Core.Bool.{cond}
 use mathlib.Core.List.{List, [], _∷_, _++_}
+use Prim.Native.Nat.{ℕ, _+_, _*_}
 use lib.Dec.{eqb, ltb, leb}
 use lib.ListN.{length, set, take}
 use Rattle.answer.specs.Coded.{done, SHAPE}

@@ -1,7 +1,7 @@
 -- What a session prints: document 01, "The session program". P is the number of pages in a file.
-use Prim.Native.Nat.{ℕ}
 use mathlib.Core.Bool.{cond}
 use mathlib.Core.List.{List, [], _∷_, _++_}
+use Prim.Native.Nat.{ℕ}
 use lib.Dec.{eqb}
 use lib.ListN.{getD, take, replicate}
 use Rattle.answer.specs.Coded.{Coded, LINE}

@@ -1,8 +1,8 @@
 -- What the parts of the code say.
-use Prim.Native.Nat.{ℕ, _≤_}
 use mathlib.Core.Path.{_≡_}
 use mathlib.Core.Bool.{Bool, true, cond}
-use mathlib.Core.List.{List, []}
+use mathlib.Core.List.{List}
+use Prim.Native.Nat.{ℕ, _≤_}
 use lib.ListN.{length, take, replicate}
 use Rattle.answer.specs.Coded.{Coded}
 use Rattle.memory.specs.Bytes.{zeros, overwrite}

@@ -32,28 +32,50 @@ serve-block-requires : tie.Need-serve-block-requires Inv-loop μ-loop
 serve-block-requires c κs = search needs
 
 sub-turns : tie.Need-sub-turns Inv-loop μ-loop
-sub-turns c = omega (arith, left (c .before .before .before .before .before .before .before .before .before .before .before .before .before .before .before .before .before .before))
+sub-turns c =
+    omega
+    (arith, left (c .before .before .before .before .before .before .before .before .before .before .before .before .before .before .before .before .before .before))
 
 loop-less : tie.Need-loop-less Inv-loop μ-loop
-loop-less c = omega (arith, left (c .before .before .before .before .before .before .before .before .before .before .before .before .before .before .before .before .before .before))
+loop-less c =
+    omega
+    (arith, left (c .before .before .before .before .before .before .before .before .before .before .before .before .before .before .before .before .before .before))
 
 loop-again : tie.Need-loop-again Inv-loop μ-loop
-loop-again c = let k = c .before .before .before .before .before .before .before .before .before .before .before .before .serve-block .kept in let l = c .before .before .before .before .before .before .before .before .before .before .before .before .before .before .before .before .before .before .before .loop .inv in (k .0 ∙ l .0, k .1 .0 ∙ l .1, k .1 .1 .0 ∙ l .2, k .1 .1 .1 .1 .0 ∙ l .3, k .1 .1 .1 .1 .1 .0 ∙ l .4)
+loop-again c =
+    let k = c .before .before .before .before .before .before .before .before .before .before .before .before .serve-block .kept in
+    let l = c .before .before .before .before .before .before .before .before .before .before .before .before .before .before .before .before .before .before .before .loop .inv in
+    (k .0 ∙ l .0, k .1 .0 ∙ l .1, k .1 .1 .0 ∙ l .2, k .1 .1 .1 .1 .0 ∙ l .3, k .1 .1 .1 .1 .1 .0 ∙ l .4)
 
 same-length : tie.Need-same-length Inv-loop μ-loop
-same-length c = let k = c .before .before .before .before .before .before .before .before .before .before .before .serve-block .kept in let l = c .before .before .before .before .before .before .before .before .before .before .before .before .before .before .before .before .before .before .loop .inv in k .0 ∙ l .0
+same-length c =
+    let k = c .before .before .before .before .before .before .before .before .before .before .before .serve-block .kept in
+    let l = c .before .before .before .before .before .before .before .before .before .before .before .before .before .before .before .before .before .before .loop .inv in
+    k .0 ∙ l .0
 
 same-length-2 : tie.Need-same-length-2 Inv-loop μ-loop
-same-length-2 c = let k = c .before .before .before .before .before .before .before .before .before .before .before .serve-block .kept in let l = c .before .before .before .before .before .before .before .before .before .before .before .before .before .before .before .before .before .before .loop .inv in k .1 .0 ∙ l .1
+same-length-2 c =
+    let k = c .before .before .before .before .before .before .before .before .before .before .before .serve-block .kept in
+    let l = c .before .before .before .before .before .before .before .before .before .before .before .before .before .before .before .before .before .before .loop .inv in
+    k .1 .0 ∙ l .1
 
 same-length-3 : tie.Need-same-length-3 Inv-loop μ-loop
-same-length-3 c = let k = c .before .before .before .before .before .before .before .before .before .before .before .serve-block .kept in let l = c .before .before .before .before .before .before .before .before .before .before .before .before .before .before .before .before .before .before .loop .inv in k .1 .1 .0 ∙ l .2
+same-length-3 c =
+    let k = c .before .before .before .before .before .before .before .before .before .before .before .serve-block .kept in
+    let l = c .before .before .before .before .before .before .before .before .before .before .before .before .before .before .before .before .before .before .loop .inv in
+    k .1 .1 .0 ∙ l .2
 
 same-length-4 : tie.Need-same-length-4 Inv-loop μ-loop
-same-length-4 c = let k = c .before .before .before .before .before .before .before .before .before .before .before .serve-block .kept in let l = c .before .before .before .before .before .before .before .before .before .before .before .before .before .before .before .before .before .before .loop .inv in k .1 .1 .1 .1 .0 ∙ l .3
+same-length-4 c =
+    let k = c .before .before .before .before .before .before .before .before .before .before .before .serve-block .kept in
+    let l = c .before .before .before .before .before .before .before .before .before .before .before .before .before .before .before .before .before .before .loop .inv in
+    k .1 .1 .1 .1 .0 ∙ l .3
 
 same-length-5 : tie.Need-same-length-5 Inv-loop μ-loop
-same-length-5 c = let k = c .before .before .before .before .before .before .before .before .before .before .before .serve-block .kept in let l = c .before .before .before .before .before .before .before .before .before .before .before .before .before .before .before .before .before .before .loop .inv in k .1 .1 .1 .1 .1 .0 ∙ l .4
+same-length-5 c =
+    let k = c .before .before .before .before .before .before .before .before .before .before .before .serve-block .kept in
+    let l = c .before .before .before .before .before .before .before .before .before .before .before .before .before .before .before .before .before .before .loop .inv in
+    k .1 .1 .1 .1 .1 .0 ∙ l .4
 
 returns : tie.Need-returns Inv-loop μ-loop
 returns c = search needs

@@ -1,11 +1,11 @@
 -- `session::serve_block` meets its contract: what is written lies within the output.
 use mathlib.Core.Path.{sym}
 use native.Mathlib.Omega.{arith}
-use Rattle.memory.proofs.Bytes.{length-front}
 use borrow.Author.Needs.{needs}
+use Rattle.memory.proofs.Bytes.{length-front}
+use Rattle.io.proofs.count.Reads as count-reads′
 use Rattle.session.proofs.serve_block.Statement.{statement}
 use Rattle.session.proofs.serve_block.Tie as tie
-use Rattle.io.proofs.count.Reads as count-reads′
 
 read-requires : tie.Need-read-requires
 read-requires c κs = search needs
@@ -41,7 +41,10 @@ slice-reshare-prefix-write-out : tie.Need-slice-reshare-prefix-write-out
 slice-reshare-prefix-write-out c = search needs
 
 slice-aggregate-write-out : tie.Need-slice-aggregate-write-out
-slice-aggregate-write-out c = let k = c .before .before .before .before .before .before .before .before .before .before in sym (length-front (c .before .count .result) (k .finish .last .1 .1 .1 .1 .0) (omega (arith, c .before .count .ensures, k .finish .ensures .1, k .finish .kept .1 .1 .1 .1 .0)))
+slice-aggregate-write-out c =
+    let k = c .before .before .before .before .before .before .before .before .before .before in
+    sym
+    (length-front (c .before .count .result) (k .finish .last .1 .1 .1 .1 .0) (omega (arith, c .before .count .ensures, k .finish .ensures .1, k .finish .kept .1 .1 .1 .1 .0)))
 
 write-out-requires : tie.Need-write-out-requires
 write-out-requires c κs = search needs
@@ -83,7 +86,10 @@ slice-reshare-prefix-write-out-2 : tie.Need-slice-reshare-prefix-write-out-2
 slice-reshare-prefix-write-out-2 c = search needs
 
 slice-aggregate-write-out-2 : tie.Need-slice-aggregate-write-out-2
-slice-aggregate-write-out-2 c = let k = c .before .before .before .before .before .before .before .before .before .before .before in sym (length-front (c .before .before .count3 .result) (k .feed .last .1 .1 .1 .1 .1 .0) (omega (arith, c .before .before .count3 .ensures, k .feed .ensures .1, k .feed .kept .1 .1 .1 .1 .1 .0)))
+slice-aggregate-write-out-2 c =
+    let k = c .before .before .before .before .before .before .before .before .before .before .before in
+    sym
+    (length-front (c .before .before .count3 .result) (k .feed .last .1 .1 .1 .1 .1 .0) (omega (arith, c .before .before .count3 .ensures, k .feed .ensures .1, k .feed .kept .1 .1 .1 .1 .1 .0)))
 
 write-out-requires-2 : tie.Need-write-out-requires-2
 write-out-requires-2 c κs = search needs

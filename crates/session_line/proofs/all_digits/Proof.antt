@@ -1,8 +1,8 @@
 -- `session_line::all_digits` meets its contract: all bytes before i are digits.
+use Prim.Native.Nat.{_-_}
 use native.Mathlib.Omega.{arith}
-use borrow.Author.Needs.{needs}
-use Prim.Native.Nat.{_≤_, _-_}
 use lib.ListN.{length}
+use borrow.Author.Needs.{needs}
 use Rattle.scan.proofs.Loops.{Checked, checked-none, checked-stop, checked-next, checked-end}
 use Rattle.session_line.specs.Grammar.{isDigit}
 use Rattle.session_line.proofs.Grammar.{not-digit-below, not-digit-above, is-digit}
@@ -37,7 +37,9 @@ loop-less : tie.Need-loop-less Inv-loop μ-loop
 loop-less c = search needs
 
 loop-again : tie.Need-loop-again Inv-loop μ-loop
-loop-again c = let l = c .before .before .before .before .before in checked-next 0 (l .loop .inv) (omega arith) (is-digit _ (c .before .before .if1 .left) (c .if2 .left))
+loop-again c =
+    let l = c .before .before .before .before .before in
+    checked-next 0 (l .loop .inv) (omega arith) (is-digit _ (c .before .before .if1 .left) (c .if2 .left))
 
 returns-3 : tie.Need-returns-3 Inv-loop μ-loop
 returns-3 c = checked-end 0 (c .before .loop .inv) (omega arith)

@@ -1,9 +1,9 @@
 -- `session_line::first_comma` meets its contract: no byte before i is a comma.
-use native.Mathlib.Omega.{arith}
-use borrow.Author.Needs.{needs}
-use Prim.Native.Nat.{_≤_, _-_}
 use mathlib.Core.Path.{_≡_, refl, _∙_}
+use Prim.Native.Nat.{_≤_, _-_}
+use native.Mathlib.Omega.{arith}
 use lib.ListN.{length}
+use borrow.Author.Needs.{needs}
 use borrow.Author.Tests.{eq-eqb, ne-eqb}
 use Rattle.scan.proofs.Loops.{Searched, searched-none, searched-here, searched-next, searched-end}
 use Rattle.session_line.specs.Rest.{isComma}
@@ -35,7 +35,9 @@ loop-again : tie.Need-loop-again Inv-loop μ-loop
 loop-again c = let l = c .before .before .before in (searched-next 0 (l .loop .inv .0) (omega arith) (ne-eqb _ _ (c .if1 .left)), search needs)
 
 returns-2 : tie.Need-returns-2 Inv-loop μ-loop
-returns-2 c = let q : c .before .loop .i ≡ length (c .before .before .args .text .now) = omega arith in q ∙ searched-end 0 (c .before .loop .inv .0) _ refl q
+returns-2 c =
+    let q : c .before .loop .i ≡ length (c .before .before .args .text .now) = omega arith in
+    q ∙ searched-end 0 (c .before .loop .inv .0) _ refl q
 
 pub first-comma-spec : {M : Type 1} → statement M
 first-comma-spec =

@@ -1,8 +1,8 @@
 -- `session_line::is_number` meets its contract: the length decides first, then the digits, then the value.
 use mathlib.Core.Path.{sym, _∙_}
 use native.Mathlib.Omega.{arith}
-use Rattle.session_line.proofs.Grammar.{too-short, too-long, no-digits, by-value}
 use borrow.Author.Needs.{needs}
+use Rattle.session_line.proofs.Grammar.{too-short, too-long, no-digits, by-value}
 use Rattle.session_line.proofs.is_number.Statement.{statement}
 use Rattle.session_line.proofs.is_number.Tie as tie
 
@@ -19,10 +19,15 @@ value-requires : tie.Need-value-requires
 value-requires c κs = (omega arith, sym (c .before .all-digits .ensures) ∙ c .if3 .taken)
 
 returns-3 : tie.Need-returns-3
-returns-3 c = let a = c .before .before .before .before .before .before .args in rw (c .value .ensures) (sym (by-value (a .limit) (a .text .now) (omega arith) (omega arith) (sym (c .before .before .all-digits .ensures) ∙ c .before .if3 .taken)))
+returns-3 c =
+    let a = c .before .before .before .before .before .before .args in
+    rw (c .value .ensures)
+    (sym (by-value (a .limit) (a .text .now) (omega arith) (omega arith) (sym (c .before .before .all-digits .ensures) ∙ c .before .if3 .taken)))
 
 returns-4 : tie.Need-returns-4
-returns-4 c = let a = c .before .before .before .before .before .args in sym (no-digits (a .limit) (a .text .now) (omega arith) (omega arith) (sym (c .before .all-digits .ensures) ∙ c .if3 .left))
+returns-4 c =
+    let a = c .before .before .before .before .before .args in
+    sym (no-digits (a .limit) (a .text .now) (omega arith) (omega arith) (sym (c .before .all-digits .ensures) ∙ c .if3 .left))
 
 pub is-number-spec : {M : Type 1} → statement M
 is-number-spec =

@@ -32,7 +32,10 @@ returns-6 c = (rw (c .if6 .taken), omega arith)
 
 returns-7 : tie.Need-returns-7
 unfolding limitsOf forms
-returns-7 c = (rw (ne-eqb _ _ (c .before .before .before .before .before .if1 .left), ne-eqb _ _ (c .before .before .before .before .if2 .left), ne-eqb _ _ (c .before .before .before .if3 .left), ne-eqb _ _ (c .before .before .if4 .left), ne-eqb _ _ (c .before .if5 .left), ne-eqb _ _ (c .if6 .left)), omega arith)
+returns-7 c = (
+  rw (ne-eqb _ _ (c .before .before .before .before .before .if1 .left), ne-eqb _ _ (c .before .before .before .before .if2 .left), ne-eqb _ _ (c .before .before .before .if3 .left), ne-eqb _ _ (c .before .before .if4 .left), ne-eqb _ _ (c .before .if5 .left), ne-eqb _ _ (c .if6 .left)),
+  omega arith,
+)
 
 pub limits-of-spec : {M : Type 1} → statement M
 limits-of-spec =

@@ -1,14 +1,14 @@
 -- `session_line::numbers` meets its contract: i numbers are read.
+use mathlib.Core.Path.{_≡_, refl, sym, ap, _∙_}
 use Prim.Native.Nat.{_≤_, _-_, _+_}
 use native.Mathlib.Omega.{arith}
-use mathlib.Core.Path.{_≡_, refl, sym, ap, _∙_}
 use lib.ListN.{length, getD, take, drop, length-set}
 use lib.Seq.{getD-take}
+use borrow.Author.Needs.{needs}
+use Rattle.memory.proofs.Bytes.{length-front}
 use Rattle.scan.specs.Scan.{firstIndex}
 use Rattle.session_line.specs.Grammar.{isNumber}
 use Rattle.session_line.specs.Rest.{isComma}
-use borrow.Author.Needs.{needs}
-use Rattle.memory.proofs.Bytes.{length-front}
 use Rattle.session_line.proofs.Grammar.{rest-whole, fieldAfter, length-field, Parsing, parsing-none, parsing-end, parsing-short, parsing-stop, parsing-next, end-within, unfit, number-parts}
 use Rattle.session_line.proofs.numbers.Statement.{statement}
 use Rattle.session_line.proofs.numbers.Tie as tie
@@ -35,7 +35,11 @@ loop-holds : tie.Need-loop-holds Inv-loop μ-loop
 loop-holds c = (parsing-none _ _ _ (c .before .pre .0), omega arith, refl)
 
 returns : tie.Need-returns Inv-loop μ-loop
-returns c = let l = c .before .before in let a = l .before .before .args in unfit _ _ _ (parsing-short (a .line .now) (take (a .count) (a .t2)) (l .loop .values) (l .loop .at) (l .loop .i) (l .loop .inv .0) (omega (arith, length-front (a .count) (a .t2) (omega arith))) (c .if1 .taken))
+returns c =
+    let l = c .before .before in
+    let a = l .before .before .args in
+    unfit _ _ _
+    (parsing-short (a .line .now) (take (a .count) (a .t2)) (l .loop .values) (l .loop .at) (l .loop .i) (l .loop .inv .0) (omega (arith, length-front (a .count) (a .t2) (omega arith))) (c .if1 .taken))
 
 add-from : tie.Need-add-from Inv-loop μ-loop
 add-from c = search needs
@@ -53,7 +57,10 @@ first-comma-requires : tie.Need-first-comma-requires Inv-loop μ-loop
 first-comma-requires c κs = search needs
 
 slice-aggregate-text : tie.Need-slice-aggregate-text Inv-loop μ-loop
-slice-aggregate-text c = let q = c .before in comma-at q ∙ sym (length-field (q .before .before .before .before .before .before .args .line .now) (q .before .before .before .before .loop .at)) ∙ sym (ap length (text-at q))
+slice-aggregate-text c =
+    let q = c .before in
+    comma-at q ∙ sym (length-field (q .before .before .before .before .before .before .args .line .now) (q .before .before .before .before .loop .at))
+    ∙ sym (ap length (text-at q))
 
 mul-is-number : tie.Need-mul-is-number Inv-loop μ-loop
 mul-is-number c = search needs
@@ -65,7 +72,10 @@ is-number-requires : tie.Need-is-number-requires Inv-loop μ-loop
 is-number-requires c κs = search needs
 
 value-requires : tie.Need-value-requires Inv-loop μ-loop
-value-requires c κs = let q = c .before in let n = number-parts _ _ (sym (field-at q) ∙ c .if2 .taken) in rw (text-at (q .before .before)) (n .0, n .1)
+value-requires c κs =
+    let q = c .before in
+    let n = number-parts _ _ (sym (field-at q) ∙ c .if2 .taken) in
+    rw (text-at (q .before .before)) (n .0, n .1)
 
 mul-values : tie.Need-mul-values Inv-loop μ-loop
 mul-values c = search needs
@@ -74,7 +84,9 @@ array-write-values : tie.Need-array-write-values Inv-loop μ-loop
 array-write-values c = omega arith
 
 add-at : tie.Need-add-at Inv-loop μ-loop
-add-at c = let l = c .before .before .before .before .before .before .before .before in omega (arith, comma-at (c .before .before .before .before), end-within (l .before .before .args .line .now) (l .loop .at) (omega arith))
+add-at c =
+    let l = c .before .before .before .before .before .before .before .before in
+    omega (arith, comma-at (c .before .before .before .before), end-within (l .before .before .args .line .now) (l .loop .at) (omega arith))
 
 add-i : tie.Need-add-i Inv-loop μ-loop
 add-i c = search needs
@@ -83,13 +95,29 @@ loop-less : tie.Need-loop-less Inv-loop μ-loop
 loop-less c = search needs
 
 loop-again : tie.Need-loop-again Inv-loop μ-loop
-loop-again c = let r = c .before .before .before .before in let l = r .before .before .before .before in let a = l .before .before .args in (rw (c .value .ensures, text-at r, comma-at r) (parsing-next (a .line .now) (take (a .count) (a .t2)) (l .loop .values) (l .loop .at) (l .loop .i) (l .loop .inv .0) (omega (arith, length-front (a .count) (a .t2) (omega arith))) (omega arith) (sym (field-at (c .before .before)) ∙ c .before .if2 .taken) (omega arith)), omega arith, length-set (l .loop .values) (l .loop .i) (c .value .result) ∙ l .loop .inv .2)
+loop-again c =
+    let r = c .before .before .before .before in
+    let l = r .before .before .before .before in
+    let a = l .before .before .args in (
+      rw (c .value .ensures, text-at r, comma-at r) (parsing-next (a .line .now) (take (a .count) (a .t2)) (l .loop .values) (l .loop .at) (l .loop .i) (l .loop .inv .0) (omega (arith, length-front (a .count) (a .t2) (omega arith))) (omega arith) (sym (field-at (c .before .before)) ∙ c .before .if2 .taken) (omega arith)),
+      omega arith,
+      length-set (l .loop .values) (l .loop .i) (c .value .result) ∙ l .loop .inv .2,
+    )
 
 returns-2 : tie.Need-returns-2 Inv-loop μ-loop
-returns-2 c = let q = c .before in let l = q .before .before .before .before .before .before in let a = l .before .before .args in unfit _ _ _ (parsing-stop (a .line .now) (take (a .count) (a .t2)) (l .loop .values) (l .loop .at) (l .loop .i) (l .loop .inv .0) (omega (arith, length-front (a .count) (a .t2) (omega arith))) (omega arith) (sym (field-at q) ∙ c .if2 .left))
+returns-2 c =
+    let q = c .before in
+    let l = q .before .before .before .before .before .before in
+    let a = l .before .before .args in
+    unfit _ _ _
+    (parsing-stop (a .line .now) (take (a .count) (a .t2)) (l .loop .values) (l .loop .at) (l .loop .i) (l .loop .inv .0) (omega (arith, length-front (a .count) (a .t2) (omega arith))) (omega arith) (sym (field-at q) ∙ c .if2 .left))
 
 returns-3 : tie.Need-returns-3 Inv-loop μ-loop
-returns-3 c = let l = c .before in let a = l .before .before .args in parsing-end (a .line .now) (take (a .count) (a .t2)) (l .loop .values) (l .loop .at) (l .loop .i) (l .loop .inv .0) (omega (arith, length-front (a .count) (a .t2) (omega arith)))
+returns-3 c =
+    let l = c .before in
+    let a = l .before .before .args in
+    parsing-end (a .line .now) (take (a .count) (a .t2)) (l .loop .values) (l .loop .at) (l .loop .i) (l .loop .inv .0)
+    (omega (arith, length-front (a .count) (a .t2) (omega arith)))
 
 pub numbers-spec : {M : Type 1} → statement M
 numbers-spec =

@@ -2,11 +2,11 @@
 use mathlib.Core.Path.{_≡_, sym, _∙_}
 use native.Mathlib.Omega.{arith}
 use lib.ListN.{getD, drop}
+use borrow.Author.Needs.{needs}
 use Rattle.scan.specs.Scan.{firstIndex}
 use Rattle.scan.proofs.Scan.{first-le}
 use Rattle.session_line.specs.Rest.{isComma, restFields, limitsOf, Values}
 use Rattle.session_line.proofs.Grammar.{values-fitting, parse-long, parse-no-letter, parse-unfit, parse-fit}
-use borrow.Author.Needs.{needs}
 use Rattle.session_line.proofs.parse.Statement.{statement}
 use Rattle.session_line.proofs.parse.Tie as tie
 
@@ -30,19 +30,31 @@ limits-of-requires : tie.Need-limits-of-requires
 limits-of-requires c κs = search needs
 
 numbers-requires : tie.Need-numbers-requires
-numbers-requires c κs = let l = c .before .before .before .before .before .before .before .args .line .now in (omega (arith, one (c .before .before .before), first-le isComma l), c .before .limits-of .ensures .1)
+numbers-requires c κs =
+    let l = c .before .before .before .before .before .before .before .args .line .now in
+    (omega (arith, one (c .before .before .before), first-le isComma l), c .before .limits-of .ensures .1)
 
 request-of-requires : tie.Need-request-of-requires
 request-of-requires c κs = let n = c .before .before in values-fitting _ _ _ _ (told n) (c .before .if3 .taken)
 
 returns-2 : tie.Need-returns-2
-returns-2 c = let n = c .before .before .before in let l = c .before .before .before .before .before .before .before .before .before .before .before .args .line .now in (c .request-of .ensures .0 ∙ parse-fit l (omega arith) (one (n .before .before .before .before)) _ _ (told n) (c .before .before .if3 .taken), c .request-of .ensures .1)
+returns-2 c =
+    let n = c .before .before .before in
+    let l = c .before .before .before .before .before .before .before .before .before .before .before .args .line .now in (
+      c .request-of .ensures .0 ∙ parse-fit l (omega arith) (one (n .before .before .before .before)) _ _ (told n) (c .before .before .if3 .taken),
+      c .request-of .ensures .1,
+    )
 
 returns-3 : tie.Need-returns-3
-returns-3 c = let n = c .before in (parse-unfit (c .before .before .before .before .before .before .before .before .before .args .line .now) (omega arith) (one (n .before .before .before .before)) _ _ (told n) (c .if3 .left), tt)
+returns-3 c =
+    let n = c .before in (
+      parse-unfit (c .before .before .before .before .before .before .before .before .before .args .line .now) (omega arith) (one (n .before .before .before .before)) _ _ (told n) (c .if3 .left),
+      tt,
+    )
 
 returns-4 : tie.Need-returns-4
-returns-4 c = (parse-no-letter (c .before .before .before .before .args .line .now) (omega arith) (λ q. c .if2 .left (c .before .first-comma .ensures ∙ q)), tt)
+returns-4 c =
+    (parse-no-letter (c .before .before .before .before .args .line .now) (omega arith) (λ q. c .if2 .left (c .before .first-comma .ensures ∙ q)), tt)
 
 pub parse-spec : {M : Type 1} → statement M
 parse-spec =

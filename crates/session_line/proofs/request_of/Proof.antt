@@ -3,10 +3,10 @@ use Prim.Native.Nat.{_≤_}
 use native.Mathlib.Omega.{arith}
 use lib.ListN.{getD}
 use borrow.Author.Tests.{ne-eqb}
+use borrow.Author.Needs.{needs}
 use Rattle.session_line.specs.Grammar.{forms, F, M, W, T, S, R}
 use Rattle.session_line.specs.Rest.{limitsOf}
 use Rattle.session_line.proofs.Grammar.{with-four, fitting}
-use borrow.Author.Needs.{needs}
 use Rattle.session_line.proofs.request_of.Statement.{statement}
 use Rattle.session_line.proofs.request_of.Tie as tie
 
@@ -38,11 +38,16 @@ array-read-t22 c = search needs
 
 cast-t23 : tie.Need-cast-t23
 unfolding limitsOf forms
-cast-t23 c = let h : getD (c .before .before .before .args .t2) 3 0 ≤ 255 = fitting _ W (c .before .before .before .args .t2) (c .if3 .taken) (c .before .before .before .pre) 3 (omega arith) in omega (arith, h)
+cast-t23 c =
+    let h : getD (c .before .before .before .args .t2) 3 0 ≤ 255 = fitting _ W (c .before .before .before .args .t2) (c .if3 .taken) (c .before .before .before .pre) 3 (omega arith) in
+    omega (arith, h)
 
 returns-3 : tie.Need-returns-3
 unfolding limitsOf forms
-returns-3 c = (rw (c .if3 .taken) (with-four W (c .before .before .before .args .t2) (omega arith)), fitting _ W (c .before .before .before .args .t2) (c .if3 .taken) (c .before .before .before .pre) 2 (omega arith))
+returns-3 c = (
+  rw (c .if3 .taken) (with-four W (c .before .before .before .args .t2) (omega arith)),
+  fitting _ W (c .before .before .before .args .t2) (c .if3 .taken) (c .before .before .before .pre) 2 (omega arith),
+)
 
 array-read-t26 : tie.Need-array-read-t26
 array-read-t26 c = search needs
@@ -75,11 +80,18 @@ array-read-t44 c = search needs
 
 returns-6 : tie.Need-returns-6
 unfolding limitsOf forms
-returns-6 c = (rw (c .if6 .taken) (with-four R (c .before .before .before .before .before .before .args .t2) (omega arith)), fitting _ R (c .before .before .before .before .before .before .args .t2) (c .if6 .taken) (c .before .before .before .before .before .before .pre) 2 (omega arith))
+returns-6 c = (
+  rw (c .if6 .taken) (with-four R (c .before .before .before .before .before .before .args .t2) (omega arith)),
+  fitting _ R (c .before .before .before .before .before .before .args .t2) (c .if6 .taken) (c .before .before .before .before .before .before .pre)
+      2 (omega arith),
+)
 
 returns-7 : tie.Need-returns-7
 unfolding limitsOf forms
-returns-7 c = (rw (ne-eqb _ _ (c .before .before .before .before .before .if1 .left), ne-eqb _ _ (c .before .before .before .before .if2 .left), ne-eqb _ _ (c .before .before .before .if3 .left), ne-eqb _ _ (c .before .before .if4 .left), ne-eqb _ _ (c .before .if5 .left), ne-eqb _ _ (c .if6 .left)), tt)
+returns-7 c = (
+  rw (ne-eqb _ _ (c .before .before .before .before .before .if1 .left), ne-eqb _ _ (c .before .before .before .before .if2 .left), ne-eqb _ _ (c .before .before .before .if3 .left), ne-eqb _ _ (c .before .before .if4 .left), ne-eqb _ _ (c .before .if5 .left), ne-eqb _ _ (c .if6 .left)),
+  tt,
+)
 
 pub request-of-spec : {M : Type 1} → statement M
 request-of-spec =

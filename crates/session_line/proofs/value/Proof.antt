@@ -23,13 +23,18 @@ shared-slice-read-wide : tie.Need-shared-slice-read-wide Inv-loop μ-loop
 shared-slice-read-wide c = search needs
 
 sub-wide : tie.Need-sub-wide Inv-loop μ-loop
-sub-wide c = let l = c .before .before in omega (arith, digit-at (l .before .before .args .text .now) (l .loop .i) (l .before .before .pre .1) (omega arith))
+sub-wide c =
+    let l = c .before .before in
+    omega (arith, digit-at (l .before .before .args .text .now) (l .loop .i) (l .before .before .pre .1) (omega arith))
 
 wide-requires : tie.Need-wide-requires Inv-loop μ-loop
 wide-requires c κs = search needs
 
 add-n : tie.Need-add-n Inv-loop μ-loop
-add-n c = let l = c .before .before .before in omega (arith, valued-small _ _ _ (l .loop .inv) (omega arith), c .wide .ensures, digit-at (l .before .before .args .text .now) (l .loop .i) (l .before .before .pre .1) (omega arith))
+add-n c =
+    let l = c .before .before .before in
+    omega
+    (arith, valued-small _ _ _ (l .loop .inv) (omega arith), c .wide .ensures, digit-at (l .before .before .args .text .now) (l .loop .i) (l .before .before .pre .1) (omega arith))
 
 add-i : tie.Need-add-i Inv-loop μ-loop
 add-i c = search needs

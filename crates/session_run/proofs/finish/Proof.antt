@@ -16,7 +16,8 @@ array-share-prefix-ends : tie.Need-array-share-prefix-ends
 array-share-prefix-ends c = search needs
 
 slice-aggregate-feed : tie.Need-slice-aggregate-feed
-slice-aggregate-feed c = sym (length-front (c .before .before .before .before .min .result) (LF ∷ []) (omega (arith, c .before .before .before .before .min .ensures)))
+slice-aggregate-feed c =
+    sym (length-front (c .before .before .before .before .min .result) (LF ∷ []) (omega (arith, c .before .before .before .before .min .ensures)))
 
 feed-requires : tie.Need-feed-requires
 feed-requires c κs = search needs
@@ -34,7 +35,11 @@ same-length-4 : tie.Need-same-length-4
 same-length-4 c = search needs
 
 returns : tie.Need-returns
-returns c = (rw (last-end (c .before .before .before .before .before .before .before .before .before .before .before .before .before .before .before .before .before .before .before .before .args .session .line) (c .before .before .before .before .before .before .before .before .before .before .before .before .before .before .min .result) (c .before .before .before .before .before .before .before .before .before .before .before .before .before .before .min .ensures)) at (c .before .before .before .before .before .before .before .before .feed .ensures .0), c .before .before .before .before .before .before .before .before .feed .ensures .1)
+returns c =
+    let p = c .before .before .before .before .before .before .before .before .before .before .before .before .before .before .before .before .before .before .before .before .args .session .line in
+    let n = c .before .before .before .before .before .before .before .before .before .before .before .before .before .before .min in
+    let f = c .before .before .before .before .before .before .before .before .feed .ensures in
+    (rw (last-end p (n .result) (n .ensures)) at (f .0), f .1)
 
 pub finish-spec : {M : Type 1} → statement M
 finish-spec =

@@ -1,9 +1,9 @@
 use Rattle.answer.specs.declared.Refusal.the-variants.{Line}
 use Rattle.answer.specs.declared.Answer.the-variants.{Refused}
 use Rattle.answer.specs.Coded.{LINE}
-use Rattle.device.specs.Admission.{give}
 use Rattle.media.specs.Geometry.{pagesPerFile}
 use Rattle.media.specs.Write.{mediaOf}
+use Rattle.device.specs.Admission.{give}
 use Rattle.device.specs.Device.{deviceOf}
 use Rattle.session_run.specs.Session.{run}
 use Rattle.session_run.proofs.Steps.{within-of, made-silent, made-read}
@@ -36,7 +36,9 @@ enum-known-request-3 : tie.Need-enum-known-request-3
 enum-known-request-3 c = search needs
 
 write-bytes-requires : tie.Need-write-bytes-requires
-write-bytes-requires c κs = within-of _ _ (c .before .before .before .before .request3 .given .1) (c .before .before .before .before .before .before .before .before .before .pre)
+write-bytes-requires c κs =
+    within-of _ _ (c .before .before .before .before .request3 .given .1)
+    (c .before .before .before .before .before .before .before .before .before .pre)
 
 silent-requires-3 : tie.Need-silent-requires-3
 silent-requires-3 c κs = search needs
@@ -63,7 +65,9 @@ enum-known-request-6 : tie.Need-enum-known-request-6
 enum-known-request-6 c = search needs
 
 read-bytes-requires : tie.Need-read-bytes-requires
-read-bytes-requires c κs = within-of _ _ (c .before .before .before .before .request6 .given .1) (c .before .before .before .before .before .before .before .before .before .pre)
+read-bytes-requires c κs =
+    within-of _ _ (c .before .before .before .before .request6 .given .1)
+    (c .before .before .before .before .before .before .before .before .before .pre)
 
 enum-told : tie.Need-enum-told
 enum-told c = search needs
@@ -79,7 +83,11 @@ same-length-2 c = search needs
 
 returns : tie.Need-returns
 unfolding run
-returns c = let a = c .before .before .before .before .before .before .before .before .before .before .before .before .before .before .args in made-silent (a .request) _ (c .before .before .before .before .before .before .before .before .before .request .given .1) pagesPerFile (deviceOf (mediaOf (a .media .now) (a .sizes .now)) (a .frames .now) (a .cache)) _ _ _ _ _ _ _ _ _ refl (c .before .before .before .before .before .format .ensures (a .frames .now)) (c .silent .ensures)
+returns c =
+    let a = c .before .before .before .before .before .before .before .before .before .before .before .before .before .before .args in
+    made-silent (a .request) _ (c .before .before .before .before .before .before .before .before .before .request .given .1) pagesPerFile
+    (deviceOf (mediaOf (a .media .now) (a .sizes .now)) (a .frames .now) (a .cache)) _ _ _ _ _ _ _ _ _ refl
+    (c .before .before .before .before .before .format .ensures (a .frames .now)) (c .silent .ensures)
 
 same-length-3 : tie.Need-same-length-3
 same-length-3 c = search needs
@@ -89,7 +97,11 @@ same-length-4 c = search needs
 
 returns-2 : tie.Need-returns-2
 unfolding run
-returns-2 c = let a = c .before .before .before .before .before .before .before .before .before .before .before .before .before .before .args in made-silent (a .request) _ (c .before .before .before .before .before .before .before .before .before .request2 .given .1) pagesPerFile (deviceOf (mediaOf (a .media .now) (a .sizes .now)) (a .frames .now) (a .cache)) _ _ _ _ _ _ _ _ _ refl (c .before .before .before .before .before .mount .ensures (a .frames .now)) (c .silent2 .ensures)
+returns-2 c =
+    let a = c .before .before .before .before .before .before .before .before .before .before .before .before .before .before .args in
+    made-silent (a .request) _ (c .before .before .before .before .before .before .before .before .before .request2 .given .1) pagesPerFile
+    (deviceOf (mediaOf (a .media .now) (a .sizes .now)) (a .frames .now) (a .cache)) _ _ _ _ _ _ _ _ _ refl
+    (c .before .before .before .before .before .mount .ensures (a .frames .now)) (c .silent2 .ensures)
 
 same-length-5 : tie.Need-same-length-5
 same-length-5 c = search needs
@@ -102,7 +114,11 @@ same-length-7 c = search needs
 
 returns-3 : tie.Need-returns-3
 unfolding run
-returns-3 c = let a = c .before .before .before .before .before .before .before .before .before .before .before .before .before .args in made-silent (a .request) _ (c .before .before .before .before .before .before .before .before .request3 .given .1) pagesPerFile (deviceOf (mediaOf (a .media .now) (a .sizes .now)) (a .frames .now) (a .cache)) _ _ _ _ _ _ _ _ _ refl (c .before .before .before .write-bytes .ensures) (c .silent3 .ensures)
+returns-3 c =
+    let a = c .before .before .before .before .before .before .before .before .before .before .before .before .before .args in
+    made-silent (a .request) _ (c .before .before .before .before .before .before .before .before .request3 .given .1) pagesPerFile
+    (deviceOf (mediaOf (a .media .now) (a .sizes .now)) (a .frames .now) (a .cache)) _ _ _ _ _ _ _ _ _ refl
+    (c .before .before .before .write-bytes .ensures) (c .silent3 .ensures)
 
 same-length-8 : tie.Need-same-length-8
 same-length-8 c = search needs
@@ -115,7 +131,11 @@ same-length-10 c = search needs
 
 returns-4 : tie.Need-returns-4
 unfolding run
-returns-4 c = let a = c .before .before .before .before .before .before .before .before .before .before .before .before .before .args in made-silent (a .request) _ (c .before .before .before .before .before .before .before .before .request4 .given .1) pagesPerFile (deviceOf (mediaOf (a .media .now) (a .sizes .now)) (a .frames .now) (a .cache)) _ _ _ _ _ _ _ _ _ refl (c .before .before .before .truncate .ensures) (c .silent4 .ensures)
+returns-4 c =
+    let a = c .before .before .before .before .before .before .before .before .before .before .before .before .before .args in
+    made-silent (a .request) _ (c .before .before .before .before .before .before .before .before .request4 .given .1) pagesPerFile
+    (deviceOf (mediaOf (a .media .now) (a .sizes .now)) (a .frames .now) (a .cache)) _ _ _ _ _ _ _ _ _ refl
+    (c .before .before .before .truncate .ensures) (c .silent4 .ensures)
 
 same-length-11 : tie.Need-same-length-11
 same-length-11 c = search needs
@@ -128,7 +148,11 @@ same-length-13 c = search needs
 
 returns-5 : tie.Need-returns-5
 unfolding run
-returns-5 c = let a = c .before .before .before .before .before .before .before .before .before .before .before .before .before .before .before .args in made-silent (a .request) _ (c .before .before .before .before .before .before .before .before .before .before .request5 .given .1) pagesPerFile (deviceOf (mediaOf (a .media .now) (a .sizes .now)) (a .frames .now) (a .cache)) _ _ _ _ _ _ _ _ _ refl (c .before .before .before .before .before .sync .ensures) (c .silent5 .ensures)
+returns-5 c =
+    let a = c .before .before .before .before .before .before .before .before .before .before .before .before .before .before .before .args in
+    made-silent (a .request) _ (c .before .before .before .before .before .before .before .before .before .before .request5 .given .1) pagesPerFile
+    (deviceOf (mediaOf (a .media .now) (a .sizes .now)) (a .frames .now) (a .cache)) _ _ _ _ _ _ _ _ _ refl
+    (c .before .before .before .before .before .sync .ensures) (c .silent5 .ensures)
 
 same-length-14 : tie.Need-same-length-14
 same-length-14 c = search needs
@@ -141,11 +165,24 @@ same-length-16 c = search needs
 
 returns-6 : tie.Need-returns-6
 unfolding run
-returns-6 c = let a = c .before .before .before .before .before .before .before .before .before .before .args in let q = c .before .before .before .before .before .request6 .given .1 in let e = c .read-bytes .ensures in made-read (a .request) _ q pagesPerFile (deviceOf (mediaOf (a .media .now) (a .sizes .now)) (a .frames .now) (a .cache)) (mediaOf (a .media .now) (a .sizes .now)) (a .frames .now) (c .read-bytes .result .answer) (c .read-bytes .result .shows) (c .read-bytes .result .bytes) (c .read-bytes .result .cache) _ _ _ refl (ap (deviceOf (mediaOf (a .media .now) (a .sizes .now)) (a .frames .now)) (sym (e .1))) (within-of _ _ q (c .before .before .before .before .before .before .before .before .before .before .pre)) (e .0) (e .2)
+returns-6 c =
+    let a = c .before .before .before .before .before .before .before .before .before .before .args in
+    let q = c .before .before .before .before .before .request6 .given .1 in
+    let e = c .read-bytes .ensures in
+    made-read (a .request) _ q pagesPerFile (deviceOf (mediaOf (a .media .now) (a .sizes .now)) (a .frames .now) (a .cache))
+    (mediaOf (a .media .now) (a .sizes .now)) (a .frames .now) (c .read-bytes .result .answer) (c .read-bytes .result .shows)
+    (c .read-bytes .result .bytes) (c .read-bytes .result .cache) _ _ _ refl
+    (ap (deviceOf (mediaOf (a .media .now) (a .sizes .now)) (a .frames .now)) (sym (e .1)))
+    (within-of _ _ q (c .before .before .before .before .before .before .before .before .before .before .pre)) (e .0) (e .2)
 
 returns-7 : tie.Need-returns-7
 unfolding run
-returns-7 c = let a = c .before .before .before .before .before .before .args in made-silent (a .request) _ (c .before .enum-told .given .1) pagesPerFile (deviceOf (mediaOf (a .media .now) (a .sizes .now)) (a .frames .now) (a .cache)) (mediaOf (a .media .now) (a .sizes .now)) (a .frames .now) _ _ _ _ (give LINE (deviceOf (mediaOf (a .media .now) (a .sizes .now)) (a .frames .now) (a .cache))) (Refused Line) (a .cache) refl refl (c .silent6 .ensures)
+returns-7 c =
+    let a = c .before .before .before .before .before .before .args in
+    made-silent (a .request) _ (c .before .enum-told .given .1) pagesPerFile
+    (deviceOf (mediaOf (a .media .now) (a .sizes .now)) (a .frames .now) (a .cache)) (mediaOf (a .media .now) (a .sizes .now)) (a .frames .now) _ _ _
+    _ (give LINE (deviceOf (mediaOf (a .media .now) (a .sizes .now)) (a .frames .now) (a .cache))) (Refused Line) (a .cache) refl refl
+    (c .silent6 .ensures)
 
 pub make-spec : {M : Type 1} → statement M
 make-spec =

@@ -1,7 +1,7 @@
 -- `session_run::push` meets its contract: its test is the definition's.
 use borrow.Author.Tests.{lt-ltb, le-ltb}
-use Rattle.session_run.specs.Feeding.{pushed}
 use borrow.Author.Needs.{needs}
+use Rattle.session_run.specs.Feeding.{pushed}
 use Rattle.session_run.proofs.push.Statement.{statement}
 use Rattle.session_run.proofs.push.Tie as tie
 

@@ -1,20 +1,20 @@
 -- `session_run::run_line` meets its contract: the call is made and its answer printed.
-use mathlib.Core.Path.{_≡_, refl, sym, ap, _∙_}
+use mathlib.Core.Path.{_≡_, sym}
 use mathlib.Core.Bool.{cond}
 use Prim.Native.Nat.{_≤_, _<_, _^_}
 use native.Mathlib.Omega.{arith}
 use lib.ListN.{length, take}
 use borrow.Author.Tests.{ne-eqb}
+use borrow.Author.Needs.{needs}
 use Rattle.answer.specs.Coded.{coded}
+use Rattle.memory.proofs.Bytes.{length-front}
 use Rattle.media.specs.Geometry.{pagesPerFile}
 use Rattle.media.specs.Write.{mediaOf}
-use Rattle.device.specs.Device.{Device, deviceOf}
+use Rattle.device.specs.Device.{deviceOf}
 use Rattle.session_line.specs.Reply.{replyLine}
-use Rattle.memory.proofs.Bytes.{length-front}
 use Rattle.session_run.specs.Session.{runLine}
 use Rattle.session_run.specs.Feeding.{runInto}
 use Rattle.session_run.proofs.Steps.{shown-few, text-fits, print-count, run-ends}
-use borrow.Author.Needs.{needs}
 use Rattle.session_run.proofs.run_line.Statement.{statement}
 use Rattle.session_run.proofs.run_line.Tie as tie
 
@@ -23,7 +23,9 @@ shown-is : (c : tie.After-shown) → c .shown .result ≡ cond (c .before .befor
 shown-is c = rw (c .before .count .ensures) at (c .shown .ensures)
 
 few : (c : tie.After-shown) → c .shown .result ≤ length (c .before .before .before .before .before .before .before .before .before .make .result .bytes)
-few c = let n : length (c .before .before .before .before .before .before .before .before .before .make .result .bytes) ≡ 32 = search needs in omega (arith, n, shown-is c, shown-few _ _ _ _ _ (c .before .before .before .before .before .before .before .before .before .make .ensures))
+few c =
+    let n : length (c .before .before .before .before .before .before .before .before .before .make .result .bytes) ≡ 32 = search needs in
+    omega (arith, n, shown-is c, shown-few _ _ _ _ _ (c .before .before .before .before .before .before .before .before .before .make .ensures))
 
 parse-requires : tie.Need-parse-requires
 parse-requires c κs = search needs
@@ -63,7 +65,9 @@ unfolding runLine
 returns c =
     let q = c .before .before .before .before .before .before in
     let k = c .before .before .before .before .before .before .before .before .before .before .before .before .before .before .before in
-    let a = c .before .before .before .before .before .before .before .before .before .before .before .before .before .before .before .before .before .before .before .before .before .before .before .before .before .before .args in
+    let a =
+    c .before .before .before .before .before .before .before .before .before .before .before .before .before .before .before .before .before
+    .before .before .before .before .before .before .before .before .before .args in
     let d = deviceOf (mediaOf (a .media .now) (a .sizes .now)) (a .frames .now) (a .cache) in
     let p = c .before .before .before .print .ensures in
     let w : coded (k .make .result .answer) .count < 2 ^ 64 = omega (arith, q .before .count .ensures) in
