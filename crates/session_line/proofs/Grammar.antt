@@ -127,6 +127,10 @@ rest-whole n xs = let h : length (drop n xs) ≤ length xs - n = omega (arith, l
 abbrev pub fieldAfter : List ℕ → ℕ → List ℕ
 fieldAfter line at = take (firstIndex isComma (drop (at + 1) line)) (drop (at + 1) line)
 
+pub field-text : (line : List ℕ) (at n : ℕ) → n ≡ firstIndex isComma (drop (at + 1) line)
+    → take n (take (length line - (at + 1)) (drop (at + 1) line)) ≡ fieldAfter line at
+field-text line at n e = rw (e, rest-whole (at + 1) line)
+
 pub length-field : (line : List ℕ) (at : ℕ) → length (fieldAfter line at) ≡ firstIndex isComma (drop (at + 1) line)
 length-field line at = length-front _ _ (first-le isComma (drop (at + 1) line))
 
@@ -171,10 +175,10 @@ module _ (line limits values : List ℕ) (at i : ℕ) (p : Parsing line limits v
       pub parsing-stop : isNumber (getD limits i 0) (fieldAfter line at) ≡ false → false ≡ numbersFit limits (restFields (drop 1 line))
       parsing-stop e = sym (rw (drop-cons limits i 0 h, rest-split line at k, e) at (p .fits))
 
-      pub parsing-next : isNumber (getD limits i 0) (fieldAfter line at) ≡ true → i < length values
-          → Parsing line limits (set values i (value (fieldAfter line at))) (endAfter line at) (i + 1)
-      parsing-next e l =
-          rw (add-one i) (record {
+      pub parsing-next : (n v : ℕ) → isNumber (getD limits i 0) (fieldAfter line at) ≡ true → i < length values
+          → n ≡ firstIndex isComma (drop (at + 1) line) → v ≡ value (fieldAfter line at) → Parsing line limits (set values i v) (at + 1 + n) (i + 1)
+      parsing-next n v e l en ev =
+          rw (add-one i, en, ev) (record {
             fits = rw (drop-cons limits i 0 h, rest-split line at k, e) at (p .fits);
             read =
                 p .read ∙ rw (rest-split line at k, take-suc-set values i (value (fieldAfter line at)) l)

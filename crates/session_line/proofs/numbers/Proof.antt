@@ -1,15 +1,16 @@
 -- `session_line::numbers` meets its contract: i numbers are read.
 use mathlib.Core.Path.{_≡_, refl, sym, ap, _∙_}
-use Prim.Native.Nat.{_≤_, _-_, _+_}
+use mathlib.Core.List.{List}
+use Prim.Native.Nat.{ℕ, _≤_, _-_, _+_}
 use native.Mathlib.Omega.{arith}
 use lib.ListN.{length, getD, take, drop, length-set}
 use lib.Seq.{getD-take}
 use borrow.Author.Needs.{needs}
 use Rattle.memory.proofs.Bytes.{length-front}
 use Rattle.scan.specs.Scan.{firstIndex}
-use Rattle.session_line.specs.Grammar.{isNumber}
+use Rattle.session_line.specs.Grammar.{value, isNumber}
 use Rattle.session_line.specs.Rest.{isComma}
-use Rattle.session_line.proofs.Grammar.{rest-whole, fieldAfter, length-field, Parsing, parsing-none, parsing-end, parsing-short, parsing-stop, parsing-next, end-within, unfit, number-parts}
+use Rattle.session_line.proofs.Grammar.{rest-whole, fieldAfter, field-text, length-field, Parsing, parsing-none, parsing-end, parsing-short, parsing-stop, parsing-next, end-within, unfit, number-parts}
 use Rattle.session_line.proofs.numbers.Statement.{statement}
 use Rattle.session_line.proofs.numbers.Tie as tie
 
@@ -19,17 +20,30 @@ Inv-loop line count limits values₀ at₀ i₀ values at i = Parsing line (take
 abbrev μ-loop : tie.MeasureT-loop
 μ-loop line count limits values₀ at₀ i₀ values at i = count - i
 
+-- the line, and the index up to which it is read
+abbrev line : tie.After-first-comma Inv-loop μ-loop → List ℕ
+line c = c .before .before .before .before .before .before .args .line .now
+
+abbrev at : tie.After-first-comma Inv-loop μ-loop → ℕ
+at c = c .before .before .before .before .loop .at
+
 -- where the next comma is, and the field up to it
-comma-at : (c : tie.After-first-comma Inv-loop μ-loop) → c .first-comma .result ≡ firstIndex isComma (drop (c .before .before .before .before .loop .at + 1) (c .before .before .before .before .before .before .args .line .now))
-comma-at c = rw (rest-whole _ (c .before .before .before .before .before .before .args .line .now)) at (c .first-comma .ensures)
+comma-at : (c : tie.After-first-comma Inv-loop μ-loop) → c .first-comma .result ≡ firstIndex isComma (drop (at c + 1) (line c))
+comma-at c = rw (rest-whole _ (line c)) at (c .first-comma .ensures)
 
-text-at : (c : tie.After-first-comma Inv-loop μ-loop) → take (c .first-comma .result) (take (length (c .before .before .before .before .before .before .args .line .now) - (c .before .before .before .before .loop .at + 1)) (drop (c .before .before .before .before .loop .at + 1) (c .before .before .before .before .before .before .args .line .now))) ≡ fieldAfter (c .before .before .before .before .before .before .args .line .now) (c .before .before .before .before .loop .at)
-text-at c = rw (comma-at c, rest-whole _ (c .before .before .before .before .before .before .args .line .now))
+text-at : (c : tie.After-first-comma Inv-loop μ-loop)
+    → take (c .first-comma .result) (take (length (line c) - (at c + 1)) (drop (at c + 1) (line c))) ≡ fieldAfter (line c) (at c)
+text-at c = field-text (line c) (at c) _ (comma-at c)
 
-field-at : (c : tie.After-is-number Inv-loop μ-loop) → c .is-number .result ≡ isNumber (getD (take (c .before .before .before .before .before .before .before .before .args .count) (c .before .before .before .before .before .before .before .before .args .t2)) (c .before .before .before .before .before .before .loop .i) 0) (fieldAfter (c .before .before .before .before .before .before .before .before .args .line .now) (c .before .before .before .before .before .before .loop .at))
+-- whether the field is a number of its limit
+field-at : (c : tie.After-is-number Inv-loop μ-loop)
+    → let q = c .before .before in
+    let a = q .before .before .before .before .before .before .args in
+    c .is-number .result ≡ isNumber (getD (take (a .count) (a .t2)) (q .before .before .before .before .loop .i) 0) (fieldAfter (line q) (at q))
 field-at c =
-    let a = c .before .before .before .before .before .before .before .before .args in
-    c .is-number .ensures ∙ rw (text-at (c .before .before), getD-take (a .count) (a .t2) (c .before .before .before .before .before .before .loop .i) 0 (omega arith))
+    let q = c .before .before in
+    let a = q .before .before .before .before .before .before .args in
+    c .is-number .ensures ∙ rw (text-at q, getD-take (a .count) (a .t2) (q .before .before .before .before .loop .i) 0 (omega arith))
 
 loop-holds : tie.Need-loop-holds Inv-loop μ-loop
 loop-holds c = (parsing-none _ _ _ (c .before .pre .0), omega arith, refl)
@@ -98,8 +112,10 @@ loop-again : tie.Need-loop-again Inv-loop μ-loop
 loop-again c =
     let r = c .before .before .before .before in
     let l = r .before .before .before .before in
-    let a = l .before .before .args in (
-      rw (c .value .ensures, text-at r, comma-at r) (parsing-next (a .line .now) (take (a .count) (a .t2)) (l .loop .values) (l .loop .at) (l .loop .i) (l .loop .inv .0) (omega (arith, length-front (a .count) (a .t2) (omega arith))) (omega arith) (sym (field-at (c .before .before)) ∙ c .before .if2 .taken) (omega arith)),
+    let a = l .before .before .args in
+    let n = length-front (a .count) (a .t2) (omega arith) in (
+      parsing-next (line r) (take (a .count) (a .t2)) (l .loop .values) (at r) (l .loop .i) (l .loop .inv .0) (omega (arith, n)) (omega arith)
+          _ _ (sym (field-at (c .before .before)) ∙ c .before .if2 .taken) (omega arith) (comma-at r) (c .value .ensures ∙ ap value (text-at r)),
       omega arith,
       length-set (l .loop .values) (l .loop .i) (c .value .result) ∙ l .loop .inv .2,
     )
@@ -109,8 +125,10 @@ returns-2 c =
     let q = c .before in
     let l = q .before .before .before .before .before .before in
     let a = l .before .before .args in
+    let n = length-front (a .count) (a .t2) (omega arith) in
     unfit _ _ _
-    (parsing-stop (a .line .now) (take (a .count) (a .t2)) (l .loop .values) (l .loop .at) (l .loop .i) (l .loop .inv .0) (omega (arith, length-front (a .count) (a .t2) (omega arith))) (omega arith) (sym (field-at q) ∙ c .if2 .left))
+    (parsing-stop (a .line .now) (take (a .count) (a .t2)) (l .loop .values) (l .loop .at) (l .loop .i) (l .loop .inv .0) (omega (arith, n)) (omega arith)
+    (sym (field-at q) ∙ c .if2 .left))
 
 returns-3 : tie.Need-returns-3 Inv-loop μ-loop
 returns-3 c =

@@ -14,7 +14,9 @@ use Rattle.session_line.proofs.parse.Tie as tie
 one : (c : tie.Then2) → firstIndex isComma (c .before .before .before .before .args .line .now) ≡ 1
 one c = sym (c .before .first-comma .ensures) ∙ c .if2 .taken
 
-told : (c : tie.After-numbers) → Values (limitsOf (getD (c .before .before .before .before .before .before .before .before .args .line .now) 0 0)) (restFields (drop 1 (c .before .before .before .before .before .before .before .before .args .line .now))) (c .numbers .result .fit) (c .numbers .result .values)
+told : (c : tie.After-numbers)
+    → let line = c .before .before .before .before .before .before .before .before .args .line .now in
+    Values (limitsOf (getD line 0 0)) (restFields (drop 1 line)) (c .numbers .result .fit) (c .numbers .result .values)
 told c = rw (c .before .before .limits-of .ensures .0) at (c .numbers .ensures)
 
 returns : tie.Need-returns
