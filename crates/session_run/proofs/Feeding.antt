@@ -1,5 +1,6 @@
 -- Laws of feeding a session: one block after another, one byte after another, and the ends of the calls.
-use mathlib.Core.Path.{_≡_, refl, sym, ap, _∙_}
+use mathlib.Core.Path.{_≡_, refl, sym, ap, subst, _∙_}
+use mathlib.Core.Logic.{_≢_}
 use mathlib.Core.List.{List, [], _∷_, _++_, append-nil, append-assoc}
 use Prim.Native.Nat.{ℕ, _+_, _-_, _*_, _/_, _<_, _≤_, min}
 use native.Mathlib.Omega.{arith}
@@ -16,7 +17,7 @@ use Rattle.device.specs.Device.{Device}
 use Rattle.device.specs.Admission.{give}
 use Rattle.session_line.specs.Grammar.{LF}
 use Rattle.session_run.specs.declared.PartialLine.{PartialLine}
-use Rattle.session_run.specs.Feeding.{Fed, fed, after, feedByte, feed, lastEnd, replyBytes, stateOf, feedBlock}
+use Rattle.session_run.specs.Feeding.{pushed, restarted, Fed, fed, after, feedByte, feed, lastEnd, replyBytes, stateOf, feedBlock}
 use Rattle.session_run.specs.Steps.{Stepped}
 
 -- ---- one block after another
@@ -55,16 +56,17 @@ module _ (P : ℕ) (input : List ℕ) (d₀ : Device) (p₀ : PartialLine) where
         → length input ≤ length before / replyBytes → length out ≡ length before → put + replyBytes ≤ length out
     fed-room i d p out put s h room e = omega (arith, s .count, s .fits, room, e)
 
-    pub fed-next : (i : ℕ) (d next : Device) (p q : PartialLine) (out left : List ℕ) (put n e : ℕ) → FedTo i d p out put → i < length input
-        → e ≡ put + replyBytes → e ≤ length out
-        → Stepped replyBytes (feedByte P (getD input i 0) d p) next q (part out put (e - put)) left n
-        → FedTo (i + 1) next q (putMid put (e - put) out left) (put + n)
-    fed-next i d next p q out left put n e s h ee eo t =
+    -- a line has ended
+    pub fed-line : (i : ℕ) (d next : Device) (p : PartialLine) (out left : List ℕ) (put n e : ℕ) → FedTo i d p out put → i < length input
+        → getD input i 0 ≡ LF → e ≡ put + replyBytes → e ≤ length out
+        → Stepped replyBytes (feedByte P LF d p) next (restarted p) (part out put (e - put)) left n
+        → FedTo (i + 1) next (restarted p) (putMid put (e - put) out left) (put + n)
+    fed-line i d next p out left put n e s h lf ee eo t =
         let y : Fed = feed P (take i input) d₀ p₀ in
-        let z : Fed = feedByte P (getD input i 0) (y .device) (y .line) in
-        let u : Stepped replyBytes z next q (part out put (e - put)) left n = rw (s .device, s .partial) at t in
+        let z : Fed = feedByte P LF (y .device) (y .line) in
+        let u : Stepped replyBytes z next (restarted p) (part out put (e - put)) left n = subst (λ x. Stepped replyBytes x next (restarted p) (part out put (e - put)) left n) (ap (λ x. feedByte P LF x p) (s .device) ∙ ap (feedByte P LF (y .device)) (s .partial)) t in
         let m : length (y .text ++ z .text) ≡ length (y .text) + length (z .text) = length-append (y .text) (z .text) in
-        rw (one-more i h)
+        rw (one-more i h, lf)
         (record {
           device = u .device;
           partial = u .partial;
@@ -73,6 +75,24 @@ module _ (P : ℕ) (input : List ℕ) (d₀ : Device) (p₀ : PartialLine) where
               (sym (overwrite-join before (y .text) (z .text)));
           count = omega (arith, s .count, u .count, m);
           fits = omega (arith, s .fits, u .fits, m);
+        })
+
+    -- the line goes on
+    pub fed-on : (i : ℕ) (d : Device) (p : PartialLine) (out : List ℕ) (put : ℕ) → FedTo i d p out put → i < length input → getD input i 0 ≢ LF
+        → FedTo (i + 1) d (pushed (getD input i 0) p) out put
+    unfolding feedByte
+    fed-on i d p out put s h n =
+        let y : Fed = feed P (take i input) d₀ p₀ in
+        let t : y .text ++ [] ≡ y .text = append-nil (y .text) in
+        let m : length (y .text) ≤ replyBytes * (i + 1) = omega (arith, s .fits) in
+        rw (one-more i h, ne-eqb _ _ n)
+        (record {
+          device =
+              s .device;
+          partial = ap (pushed (getD input i 0)) (s .partial);
+          bytes = rw t (s .bytes);
+          count = rw t (s .count);
+          fits = rw t m;
         })
 
     pub fed-all : (i : ℕ) (d : Device) (p : PartialLine) (out : List ℕ) (put : ℕ) → FedTo i d p out put → length input ≤ i → replyBytes * length input ≤ length before

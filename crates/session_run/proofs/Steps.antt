@@ -1,6 +1,5 @@
 -- Laws for the parts of the code.
 use mathlib.Core.Path.{_≡_, refl, sym, ap, _∙_}
-use mathlib.Core.Logic.{_≢_}
 use mathlib.Core.Bool.{Bool, true, false, cond, false≢true}
 use mathlib.Core.List.{List, [], _∷_, _++_}
 use Prim.Native.Nat.{ℕ, zero, suc, _^_, _≤_, _<_, min}
@@ -9,7 +8,7 @@ use native.Mathlib.Nat.{not-suc-le-zero, le-of-suc-le-suc}
 use lib.Dec.{leb}
 use lib.ListN.{length, take, replicate, length-replicate, length-take}
 use lib.Seq.{take-append-seam, take-all, take-take}
-use borrow.Author.Tests.{eq-eqb, ne-eqb, le-leb, leb-true}
+use borrow.Author.Tests.{eq-eqb, le-leb, leb-true}
 use borrow.Table.Steps.{cases}
 use Rattle.answer.specs.declared.Refusal.{Refusal}
 use Rattle.answer.specs.declared.Refusal.the-variants.{Line, Shape, Media, Books, Down, NoFile, Range, NoRoom, Cut}
@@ -17,7 +16,6 @@ use Rattle.answer.specs.declared.Answer.{Answer}
 use Rattle.answer.specs.declared.Answer.the-variants.{Done, Refused}
 use Rattle.answer.specs.Coded.{Coded, coded, codedRefusal, done}
 use Rattle.memory.specs.Bytes.{zeros, overwrite}
-use Rattle.memory.proofs.Bytes.{overwrite-none}
 use Rattle.memory.proofs.Cases.{split-lt}
 use Rattle.media.specs.Write as Write
 use Rattle.device.specs.declared.CacheState.{CacheState}
@@ -33,7 +31,7 @@ use Rattle.session_line.specs.Reply.{decimal, replyLine, printAnswer, printed}
 use Rattle.session_line.proofs.Reply.{length-small, decimal-length, decimal-fits, reply-length}
 use Rattle.session_run.specs.declared.PartialLine.{PartialLine}
 use Rattle.session_run.specs.Session.{Ran, silent, shown, text, run, runLine}
-use Rattle.session_run.specs.Feeding.{keptBytes, pushed, restarted, lineOf, feedByte, replyBytes, runInto}
+use Rattle.session_run.specs.Feeding.{keptBytes, restarted, lineOf, feedByte, replyBytes, runInto}
 use Rattle.session_run.specs.Steps.{noBytes, sameBytes, Made, Stepped}
 
 take-replicate : (n m x : ℕ) → n ≤ m → take n (replicate m x) ≡ replicate n x
@@ -147,16 +145,16 @@ kept-line p n h e =
     (λ k. let a : n ≡ p .length = omega (arith, e) in ap (λ (j : ℕ). take j (p .bytes)) a)
 
 -- the line has ended, and was run
-pub stepped-end : (P b : ℕ) (d : Device) (p : PartialLine) (line output left : List ℕ) (after : Device) (a : Answer) (n : ℕ)
-    → b ≡ LF → line ≡ lineOf p → length output ≡ replyBytes → n ≡ coded a .count
+pub stepped-end : (P : ℕ) (d : Device) (p : PartialLine) (line output left : List ℕ) (after : Device) (a : Answer) (n : ℕ)
+    → line ≡ lineOf p → length output ≡ replyBytes → n ≡ coded a .count
     → (give {A = Device × List ℕ} (coded a) (after, left) ≡ runInto P line (d, output)) × (coded a .count ≤ replyBytes)
-    → Stepped replyBytes (feedByte P b d p) after (restarted p) output left n
+    → Stepped replyBytes (feedByte P LF d p) after (restarted p) output left n
 unfolding runInto feedByte
-stepped-end P b d p line output left after a n eb el h en e =
+stepped-end P d p line output left after a n el h en e =
     let r : Ran = runLine P line d in
     let q : give {A = Device × List ℕ} (coded a) (after, left) ≡ give (done (length (text r))) (r .device, overwrite output 0 (text r)) = rw (eq-eqb _ _ h) at (e .0) in
     let m : coded a .count ≡ length (text r) = ap (λ (x : Result (Device × List ℕ)). x .answer .count) q in
-    rw (eq-eqb _ _ eb, ← el)
+    rw (← el)
     (record {
       device = ap (λ (x : Result (Device × List ℕ)). x .left .0) q;
       partial = refl;
@@ -164,9 +162,3 @@ stepped-end P b d p line output left after a n eb el h en e =
       count = en ∙ m;
       fits = omega (arith, m, e .1);
     })
-
--- the line goes on
-pub stepped-on : (P b : ℕ) (d : Device) (p : PartialLine) (output : List ℕ) → b ≢ LF → Stepped replyBytes (feedByte P b d p) d (pushed b p) output output 0
-unfolding feedByte
-stepped-on P b d p output n =
-    rw (ne-eqb _ _ n) (record { device = refl; partial = refl; bytes = sym (overwrite-none output 0); count = refl; fits = omega arith })

@@ -19,11 +19,12 @@ ghost use Rattle.device.specs.Device.{deviceOf, downState};
 ghost use Rattle.device.specs.Admission.{give};
 ghost use Rattle.device.specs.Reading.{read};
 ghost use Rattle.device.specs.Writing.{write};
+ghost use Rattle.session_line.specs.Grammar.{LF};
 ghost use Rattle.session_line.specs.Request.{spelled};
 ghost use Rattle.session_line.specs.Reply.{header};
 ghost use Rattle.session_line.specs.Rest.{Within};
 ghost use Rattle.session_run.specs.Session.{run};
-ghost use Rattle.session_run.specs.Feeding.{replyBytes, noLine, pushed, lastEnd, feedByte, runInto, stateOf, feedBlock};
+ghost use Rattle.session_run.specs.Feeding.{replyBytes, noLine, pushed, restarted, lastEnd, feedByte, runInto, stateOf, feedBlock};
 ghost use Rattle.session_run.specs.Steps.{noBytes, sameBytes, Made, Stepped};
 
 // The greatest length of a line that is printed.
@@ -292,47 +293,33 @@ fn push(line: PartialLine, b: u8) -> PartialLine
     line
 }
 
-// What a byte of input gives: the session after it, and how many bytes it printed.
+// What a line that has ended gives: the cache state after it, and how many bytes it printed.
 struct Step {
-    session: Session,
+    cache: CacheState,
     count: usize,
 }
 
-fn feed_byte(
+fn end_line(
     media: &mut [u8],
     sizes: &mut [u32],
     frames: &mut [u8],
-    session: Session,
-    b: u8,
+    cache: CacheState,
+    line: PartialLine,
     output: &mut [u8],
 ) -> Step
     requires { ⌜ length (now output) ≡ replyBytes ⌝ }
-    ensures { λ r. ⌜ Stepped replyBytes (feedByte pagesPerFile b (deviceOf (mediaOf (now (media .entry)) (now (sizes .entry))) (now (frames .entry)) (session .cache)) (session .line))
-        (deviceOf (mediaOf (now (media .exit)) (now (sizes .exit))) (now (frames .exit)) (r .session .cache)) (r .session .line)
+    ensures { λ r. ⌜ Stepped replyBytes (feedByte pagesPerFile LF (deviceOf (mediaOf (now (media .entry)) (now (sizes .entry))) (now (frames .entry)) cache) line)
+        (deviceOf (mediaOf (now (media .exit)) (now (sizes .exit))) (now (frames .exit)) (r .cache)) (restarted line)
         (now (output .entry)) (now (output .exit)) (r .count) ⌝ }
 {
-    let cache = session.cache;
-    let line = session.line;
-    if b == b'\n' {
-        let bytes = line.bytes;
-        let n = number::min(line.length, KEPT_BYTES);
-        let ran = run_line(media, sizes, frames, cache, &bytes[..n], output);
-        let state = ran.cache;
-        let answer = ran.answer;
-        return Step {
-            session: Session {
-                cache: state,
-                line: PartialLine { bytes, length: 0 },
-            },
-            count: answer::count(answer),
-        };
-    }
+    let bytes = line.bytes;
+    let n = number::min(line.length, KEPT_BYTES);
+    let ran = run_line(media, sizes, frames, cache, &bytes[..n], output);
+    let state = ran.cache;
+    let answer = ran.answer;
     Step {
-        session: Session {
-            cache,
-            line: push(line, b),
-        },
-        count: 0,
+        cache: state,
+        count: answer::count(answer),
     }
 }
 
@@ -356,27 +343,28 @@ pub fn feed(
             session,
         };
     }
-    let mut current = session;
+    let mut cache = session.cache;
+    let mut line = session.line;
     let mut put = 0;
     let mut i = 0;
     while i < input.len() {
-        let end = put + REPLY_BYTES;
-        let step = feed_byte(
-            media,
-            sizes,
-            frames,
-            current,
-            input[i],
-            &mut output[put..end],
-        );
-        let next = step.session;
-        current = next;
-        put += step.count;
-        i += 1;
+        let b = input[i];
+        if b == b'\n' {
+            let end = put + REPLY_BYTES;
+            let step = end_line(media, sizes, frames, cache, line, &mut output[put..end]);
+            let next = step.cache;
+            cache = next;
+            line.length = 0;
+            put += step.count;
+            i += 1;
+        } else {
+            line = push(line, b);
+            i += 1;
+        }
     }
     SessionOutcome {
         answer: Answer::Done(put),
-        session: current,
+        session: Session { cache, line },
     }
 }
 
