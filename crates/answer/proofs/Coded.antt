@@ -1,6 +1,8 @@
 -- Laws of answers in numbers.
 use mathlib.Core.Path.{_≡_, refl, sym, ap, _∙_}
 use mathlib.Core.Bool.{false, cond}
+use Prim.Native.Nat.{_<_}
+use native.Mathlib.Omega.{arith}
 use lib.Dec.{eqb}
 use Rattle.answer.specs.declared.Refusal.{Refusal}
 use Rattle.answer.specs.declared.Refusal.the-variants.{Line, Shape, Media, Books, Down, NoFile, Range, NoRoom, Cut}
@@ -19,6 +21,22 @@ refusal-number NoFile = refl
 refusal-number Range = refl
 refusal-number NoRoom = refl
 refusal-number (Cut n) = refl
+
+-- an answer's number has one digit
+pub number-small : (a : Answer) → coded a .number < 10
+number-small (Done n) = omega arith
+number-small (Refused r) = go r
+  where
+    go : (r : Refusal) → codedRefusal r .number < 10
+    go Line = omega arith
+    go Shape = omega arith
+    go Media = omega arith
+    go Books = omega arith
+    go Down = omega arith
+    go NoFile = omega arith
+    go Range = omega arith
+    go NoRoom = omega arith
+    go (Cut n) = omega arith
 
 -- the answer with a number and a count
 decoded : Coded → Answer

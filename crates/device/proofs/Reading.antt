@@ -31,6 +31,10 @@ pub read-by : (P f position : ℕ) (buffer : List ℕ) (d : Device) (Q : Result 
 unfolding read
 read-by P f position buffer d Q fails finished = file-by P d Q f (leb position (fileBytes P)) buffer _ fails finished
 
+-- it counts no more than it was asked for
+pub read-counts : (P f position : ℕ) (buffer : List ℕ) (d : Device) → read P f position buffer d .answer .count ≤ length buffer
+read-counts P f position buffer d = read-by P f position buffer d (λ r. r .answer .count ≤ length buffer) (λ k h n. omega arith) (λ ok. omega arith)
+
 -- ---- the ends of a read
 
 module _ (P f position : ℕ) (buffer : List ℕ) (d : Device) where

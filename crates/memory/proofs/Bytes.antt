@@ -5,8 +5,8 @@ use Prim.Native.Nat.{ℕ, zero, suc, _+_, _-_, _<_, _≤_, min}
 use native.Mathlib.Omega.{arith}
 use native.Mathlib.Nat.{not-suc-le-zero, le-of-suc-le-suc, zero-add, suc-add, add-suc, sub-zero, suc-sub-suc}
 use native.Mathlib.Numerals.{add-one}
-use lib.ListN.{length, getD, set, take, drop, length-take, length-drop, length-replicate}
-use lib.Seq.{take-nil, drop-nil, drop-drop, getD-take, getD-drop}
+use lib.ListN.{length, getD, set, take, drop, replicate, length-take, length-drop, length-replicate}
+use lib.Seq.{take-nil, drop-nil, drop-drop, getD-take, getD-drop, take-append-seam}
 use borrow.Rule.Slice.PartMut.{putMid}
 use Rattle.memory.specs.Bytes.{zeros, part, overwrite}
 
@@ -17,7 +17,17 @@ getD-zeros zero i = refl
 getD-zeros (suc n) zero = refl
 getD-zeros (suc n) (suc i) = getD-zeros n i
 
+-- as many of many equal elements
+pub take-replicate : (n m x : ℕ) → n ≤ m → take n (replicate m x) ≡ replicate n x
+take-replicate zero m x h = refl
+take-replicate (suc n) zero x h = absurd (not-suc-le-zero h)
+take-replicate (suc n) (suc m) x h = ap (λ (l : List ℕ). x ∷ l) (take-replicate n m x (le-of-suc-le-suc h))
+
 -- ---- parts
+
+-- what a callee left in the front
+pub take-front : (n : ℕ) (xs ys : List ℕ) → length xs ≡ n → take n (xs ++ ys) ≡ xs
+take-front n xs ys e = rw (← e) (take-append-seam xs ys)
 
 pub length-front : (n : ℕ) (xs : List ℕ) → n ≤ length xs → length (take n xs) ≡ n
 length-front n xs h = simp length-take (omega arith)

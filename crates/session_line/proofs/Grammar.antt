@@ -17,7 +17,7 @@ use Rattle.memory.proofs.Cases.{split-eq}
 use Rattle.scan.specs.Scan.{every, firstIndex}
 use Rattle.scan.proofs.Scan.{and-left, and-right, allOf-at, every-at, first-le}
 use Rattle.session_line.specs.Grammar.{isDigit, valueFrom, value, isNumber, comma, fields, Form, forms, numbersFit, Command, command, malformed, byForms, greatestLine, parse, F, M, W, T, S, R}
-use Rattle.session_line.specs.Rest.{isComma, restFields, limitsOf, withValues, Fitting, Values}
+use Rattle.session_line.specs.Parser.{isComma, restFields, limitsOf, withValues, Fitting, Values}
 
 -- ---- fields
 
@@ -31,6 +31,9 @@ fields-split (c ∷ cs) = cases (eqb c comma) (λ h. rw h) (λ h. rw (h, fields-
 pub digit-bounds : (c : ℕ) → isDigit c ≡ true → (48 ≤ c) × (c ≤ 57)
 digit-bounds c e = (leb-true 48 c (and-left (leb 48 c) (leb c 57) e), leb-true c 57 (and-right (leb 48 c) (leb c 57) e))
 
+pub digit-at : (text : List ℕ) (i : ℕ) → every isDigit text ≡ true → i < length text → (48 ≤ getD text i 0) × (getD text i 0 ≤ 57)
+digit-at text i e h = digit-bounds (getD text i 0) (every-at isDigit text 0 e i h)
+
 -- the digits before i have value n: the rest gives the value of all
 pub record Valued (text : List ℕ) (i n : ℕ) : Type 0 where
   pub so-far : valueFrom n (drop i text) ≡ value text
@@ -41,7 +44,7 @@ valued-none text = record { so-far = refl; bound = omega arith }
 
 pub valued-next : (text : List ℕ) (i n : ℕ) → Valued text i n → i < length text → every isDigit text ≡ true → Valued text (i + 1) (10 * n + (getD text i 0 - 48))
 valued-next text i n v h e =
-    let d : (48 ≤ getD text i 0) × (getD text i 0 ≤ 57) = digit-bounds (getD text i 0) (every-at isDigit text 0 e i h) in
+    let d : (48 ≤ getD text i 0) × (getD text i 0 ≤ 57) = digit-at text i e h in
     let b : 10 * n + (getD text i 0 - 48) < 10 * 10 ^ i = omega (arith, v .bound, d) in
     rw add-one (record { so-far = rw (drop-cons text i 0 h) at (v .so-far); bound = rw pow-succ' b })
 
@@ -51,9 +54,6 @@ valued-end text i n v h = rw (drop-of-length-le text h) at (v .so-far)
 -- at most four digits before
 pub valued-small : (text : List ℕ) (i n : ℕ) → Valued text i n → i < 5 → n < 10000
 valued-small text i n v h = lt-of-lt-of-le (v .bound) (pow-le-pow-right {n = 10} (omega arith) {i = i} {j = 4} (omega arith))
-
-pub digit-at : (text : List ℕ) (i : ℕ) → every isDigit text ≡ true → i < length text → (48 ≤ getD text i 0) × (getD text i 0 ≤ 57)
-digit-at text i e h = digit-bounds (getD text i 0) (every-at isDigit text 0 e i h)
 
 pub not-digit-below : (c : ℕ) → c < 48 → isDigit c ≡ false
 not-digit-below c h = rw (lt-leb 48 c h)

@@ -5,10 +5,10 @@ use Prim.Native.Nat.{ℕ, zero, suc, _+_, _-_, _*_, _/_, _%_, _^_, _≤_, _<_}
 use native.Mathlib.Omega.{arith}
 use native.Mathlib.Nat.{not-suc-le-zero, pow-suc}
 use native.Mathlib.Numerals.{add-one}
-use lib.Dec.{ltb}
+use lib.Dec.{ltb, leb}
 use lib.ListN.{length, getD, set, take, length-append, length-take}
 use lib.Seq.{take-suc}
-use borrow.Author.Tests.{lt-ltb, le-ltb, le-leb, lt-leb, ltb-true, ltb-false}
+use borrow.Author.Tests.{lt-ltb, le-ltb, le-leb, lt-leb, ltb-true, ltb-false, leb-true}
 use borrow.Table.Steps.{cases}
 use Rattle.answer.specs.Coded.{Coded, done, SHAPE}
 use Rattle.memory.specs.Bytes.{overwrite}
@@ -136,3 +136,7 @@ print-fits text output h = rw (le-leb _ _ h) (refl, refl)
 
 pub print-short : (text output : List ℕ) → length output < length text → (printAnswer text output ≡ SHAPE) × (printed text output ≡ output)
 print-short text output h = rw (lt-leb _ _ h) (refl, refl)
+
+pub print-count : (text output : List ℕ) → printAnswer text output .count ≤ length output
+print-count text output =
+    cases (leb (length text) (length output)) (λ e. rw e (leb-true _ _ e)) (λ e. rw e (omega arith))

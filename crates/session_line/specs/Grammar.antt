@@ -78,19 +78,28 @@ S = code "S"
 abbrev pub R : ℕ
 R = code "R"
 
--- a number with no limit of its own
-abbrev pub most : ℕ
-most = 65535
+-- the greatest number, the greatest length of a write and of a read, the greatest byte
+abbrev pub greatestNumber : ℕ
+greatestNumber = 65535
+
+abbrev pub greatestWrite : ℕ
+greatestWrite = 4096
+
+abbrev pub greatestRead : ℕ
+greatestRead = 32
+
+abbrev pub greatestByte : ℕ
+greatestByte = 255
 
 -- `F,grant` `M,grant` `W,file,position,length,byte` `T,file,n` `S,file,grant` `R,file,position,length`
 unfoldable pub forms : List Form
 forms =
-    form F (most ∷ [])
-    ∷ form M (most ∷ [])
-    ∷ form W (most ∷ most ∷ 4096 ∷ 255 ∷ [])
-    ∷ form T (most ∷ most ∷ [])
-    ∷ form S (most ∷ most ∷ [])
-    ∷ form R (most ∷ most ∷ 32 ∷ [])
+    form F (greatestNumber ∷ [])
+    ∷ form M (greatestNumber ∷ [])
+    ∷ form W (greatestNumber ∷ greatestNumber ∷ greatestWrite ∷ greatestByte ∷ [])
+    ∷ form T (greatestNumber ∷ greatestNumber ∷ [])
+    ∷ form S (greatestNumber ∷ greatestNumber ∷ [])
+    ∷ form R (greatestNumber ∷ greatestNumber ∷ greatestRead ∷ [])
     ∷ []
 
 -- the text is this letter

@@ -2,4 +2,4 @@ pub mod Ascii
 pub mod Grammar
 pub mod Request
 pub mod Reply
-pub mod Rest
+pub mod Parser

@@ -10,7 +10,7 @@ ghost use Rattle.memory.specs.Bytes.{overwrite};
 ghost use Rattle.scan.specs.Scan.{every, firstIndex};
 ghost use Rattle.session_line.specs.Grammar.{isDigit, value, isNumber, parse};
 ghost use Rattle.session_line.specs.Reply.{decimal, hexDigit, hex, replyLine, printAnswer, printed};
-ghost use Rattle.session_line.specs.Rest.{isComma, restFields, limitsOf, withValues, Fitting, Values, Within};
+ghost use Rattle.session_line.specs.Parser.{isComma, restFields, limitsOf, withValues, Fitting, Values, Within};
 ghost use Rattle.session_line.specs.Request.{spelled};
 
 // What a line asks for.

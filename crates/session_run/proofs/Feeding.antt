@@ -4,26 +4,36 @@ use mathlib.Core.Logic.{_≢_}
 use mathlib.Core.List.{List, [], _∷_, _++_, append-nil, append-assoc}
 use Prim.Native.Nat.{ℕ, _+_, _-_, _*_, _/_, _<_, _≤_, min}
 use native.Mathlib.Omega.{arith}
+use native.Mathlib.Nat.{not-suc-le-zero, le-of-suc-le-suc}
 use native.Mathlib.Numerals.{add-one}
+use lib.Dec.{eqb}
 use lib.ListN.{length, getD, take, length-append}
 use lib.Seq.{take-suc, take-all}
 use borrow.Author.Tests.{eq-eqb, ne-eqb, le-leb, lt-leb}
 use borrow.Rule.Slice.PartMut.{putMid}
-use Rattle.answer.specs.Coded.{done, SHAPE}
-use Rattle.memory.specs.Bytes.{part}
+use borrow.Table.Steps.{cases}
+use Rattle.answer.specs.declared.Answer.{Answer}
+use Rattle.answer.specs.Coded.{coded, done, SHAPE}
+use Rattle.memory.specs.Bytes.{part, overwrite}
 use Rattle.memory.proofs.Bytes.{overwrite-none, overwrite-join, put-copy}
 use Rattle.memory.proofs.Cases.{split-eq}
 use Rattle.device.specs.Device.{Device}
-use Rattle.device.specs.Admission.{give}
+use Rattle.device.specs.Admission.{Result, give}
 use Rattle.session_line.specs.Grammar.{LF}
 use Rattle.session_run.specs.declared.PartialLine.{PartialLine}
-use Rattle.session_run.specs.Feeding.{pushed, restarted, Fed, fed, after, feedByte, feed, lastEnd, replyBytes, stateOf, feedBlock}
+use Rattle.session_run.specs.Feeding.{pushed, restarted, Fed, fed, after, feedByte, feed, lastEnd, replyBytes, State, stateOf, feedBlock}
 use Rattle.session_run.specs.Steps.{Stepped}
 
 -- ---- one block after another
 
 after-after : (s t : List ℕ) (x : Fed) → after s (after t x) ≡ after (s ++ t) x
 after-after s t x = ap (fed (x .device) (x .line)) (sym (append-assoc s t (x .text)))
+
+take-overwrite : (xs ys : List ℕ) → length ys ≤ length xs → take (length ys) (overwrite xs 0 ys) ≡ ys
+take-overwrite [] [] h = refl
+take-overwrite [] (y ∷ ys) h = absurd (not-suc-le-zero h)
+take-overwrite (x ∷ xs) [] h = refl
+take-overwrite (x ∷ xs) (y ∷ ys) h = ap (λ (l : List ℕ). y ∷ l) (take-overwrite xs ys (le-of-suc-le-suc h))
 
 module _ (P : ℕ) where
   pub feed-join : (xs ys : List ℕ) (d : Device) (p : PartialLine) → after (feed P xs d p .text) (feed P ys (feed P xs d p .device) (feed P xs d p .line)) ≡ feed P (xs ++ ys) d p
@@ -107,6 +117,30 @@ module _ (P : ℕ) (input : List ℕ) (d₀ : Device) (p₀ : PartialLine) where
     unfolding feedBlock
     fed-refused h = let k : length before < replyBytes * length input = omega arith in rw (lt-leb _ _ k)
 
+-- ---- what a call on a block left
+
+-- where there is room, it is what the block gives: its text at the front of the output, and counted
+pub block-fed : (P : ℕ) (input : List ℕ) (d next : Device) (p q : PartialLine) (before out : List ℕ) (a : Answer)
+    → (give (coded a) (stateOf next q out) ≡ feedBlock P input (stateOf d p before)) × (coded a .count ≤ length before)
+    → replyBytes * length input ≤ length before → Stepped (length before) (feed P input d p) next q before out (coded a .count)
+unfolding feedBlock
+block-fed P input d next p q before out a e room =
+    let y : Fed = feed P input d p in
+    let r : give (coded a) (stateOf next q out) ≡ give (done (length (y .text))) (stateOf (y .device) (y .line) (overwrite before 0 (y .text))) = rw (le-leb _ _ room) at (e .0) in
+    let n : coded a .count ≡ length (y .text) = ap (λ (x : Result State). x .answer .count) r in
+    record {
+      device = ap (λ (x : Result State). x .left .device) r;
+      partial = ap (λ (x : Result State). x .left .line) r;
+      bytes = ap (λ (x : Result State). x .left .output) r;
+      count = n;
+      fits = omega (arith, n, e .1);
+    }
+
+-- and as many bytes as it counts are the text
+pub text-left : (bound : ℕ) (x : Fed) (d : Device) (p : PartialLine) (before after : List ℕ) (n : ℕ) → Stepped bound x d p before after n → bound ≤ length before
+    → take n after ≡ x .text
+text-left bound x d p before after n s h = rw (s .bytes, s .count) (take-overwrite before (x .text) (omega (arith, s .fits)))
+
 -- ---- the end of the input
 
 pub last-end : (p : PartialLine) (n : ℕ) → n ≡ min (p .length) 1 → take n (LF ∷ []) ≡ lastEnd p
@@ -114,3 +148,6 @@ last-end p n e =
     split-eq (p .length) 0
     (λ q. let z : n ≡ 0 = omega (arith, e) in rw (z, eq-eqb _ _ q))
     (λ q. let o : n ≡ 1 = omega (arith, e, q) in rw (o, ne-eqb _ _ q))
+
+pub last-short : (p : PartialLine) → length (lastEnd p) ≤ 1
+last-short p = cases (eqb (p .length) 0) (λ e. rw e (omega arith)) (λ e. rw e (omega arith))

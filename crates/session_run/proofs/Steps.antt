@@ -1,77 +1,61 @@
 -- Laws for the parts of the code.
 use mathlib.Core.Path.{_≡_, refl, sym, ap, _∙_}
 use mathlib.Core.Bool.{Bool, true, false, cond, false≢true}
-use mathlib.Core.List.{List, [], _∷_, _++_}
-use Prim.Native.Nat.{ℕ, zero, suc, _^_, _≤_, _<_, min}
+use mathlib.Core.List.{List, []}
+use Prim.Native.Nat.{ℕ, _^_, _≤_, _<_, min}
 use native.Mathlib.Omega.{arith}
-use native.Mathlib.Nat.{not-suc-le-zero, le-of-suc-le-suc}
-use lib.Dec.{leb}
 use lib.ListN.{length, take, replicate, length-replicate, length-take}
-use lib.Seq.{take-append-seam, take-all, take-take}
-use borrow.Author.Tests.{eq-eqb, le-leb, leb-true}
+use lib.Seq.{take-all, take-take}
+use borrow.Author.Tests.{eq-eqb, le-leb}
 use borrow.Table.Steps.{cases}
-use Rattle.answer.specs.declared.Refusal.{Refusal}
-use Rattle.answer.specs.declared.Refusal.the-variants.{Line, Shape, Media, Books, Down, NoFile, Range, NoRoom, Cut}
 use Rattle.answer.specs.declared.Answer.{Answer}
-use Rattle.answer.specs.declared.Answer.the-variants.{Done, Refused}
-use Rattle.answer.specs.Coded.{Coded, coded, codedRefusal, done}
+use Rattle.answer.specs.Coded.{Coded, coded, done}
+use Rattle.answer.proofs.Coded.{number-small}
 use Rattle.memory.specs.Bytes.{zeros, overwrite}
+use Rattle.memory.proofs.Bytes.{take-replicate}
 use Rattle.memory.proofs.Cases.{split-lt}
-use Rattle.media.specs.Write as Write
+use Rattle.media.specs.Write.{Media}
 use Rattle.device.specs.declared.CacheState.{CacheState}
 use Rattle.device.specs.Device.{Device, deviceOf}
 use Rattle.device.specs.Admission.{Result, give}
 use Rattle.device.specs.Reading.{read}
-use Rattle.device.proofs.Reading.{read-by}
+use Rattle.device.proofs.Reading.{read-counts}
 use Rattle.session_line.specs.declared.Request.{Request}
 use Rattle.session_line.specs.Request.{spelled}
-use Rattle.session_line.specs.Rest.{Within}
-use Rattle.session_line.specs.Grammar.{LF}
+use Rattle.session_line.specs.Parser.{Within}
+use Rattle.session_line.specs.Grammar.{LF, greatestWrite, greatestRead}
 use Rattle.session_line.specs.Reply.{decimal, replyLine, printAnswer, printed}
 use Rattle.session_line.proofs.Reply.{length-small, decimal-length, decimal-fits, reply-length}
 use Rattle.session_run.specs.declared.PartialLine.{PartialLine}
 use Rattle.session_run.specs.Session.{Ran, silent, shown, text, run, runLine}
 use Rattle.session_run.specs.Feeding.{keptBytes, restarted, lineOf, feedByte, replyBytes, runInto}
-use Rattle.session_run.specs.Steps.{noBytes, sameBytes, Made, Stepped}
+use Rattle.session_run.specs.Steps.{readBuffer, sameBytes, Made, Stepped}
 
-take-replicate : (n m x : ℕ) → n ≤ m → take n (replicate m x) ≡ replicate n x
-take-replicate zero m x h = refl
-take-replicate (suc n) zero x h = absurd (not-suc-le-zero h)
-take-replicate (suc n) (suc m) x h = ap (λ (l : List ℕ). x ∷ l) (take-replicate n m x (le-of-suc-le-suc h))
-
-pub take-same : (n b : ℕ) → n ≤ 4096 → take n (sameBytes b) ≡ replicate n b
+pub take-same : (n b : ℕ) → n ≤ greatestWrite → take n (sameBytes b) ≡ replicate n b
 unfolding sameBytes
-take-same n b h = take-replicate n 4096 b h
+take-same n b h = take-replicate n greatestWrite b h
 
-pub length-same : (b : ℕ) → length (sameBytes b) ≡ 4096
+pub length-same : (b : ℕ) → length (sameBytes b) ≡ greatestWrite
 unfolding sameBytes
-length-same b = length-replicate 4096 b
+length-same b = length-replicate greatestWrite b
 
-pub take-none : (n : ℕ) → n ≤ 32 → take n noBytes ≡ zeros n
-unfolding noBytes
-take-none n h = take-replicate n 32 0 h
+pub take-buffer : (n : ℕ) → n ≤ greatestRead → take n readBuffer ≡ zeros n
+unfolding readBuffer
+take-buffer n h = take-replicate n greatestRead 0 h
 
-pub length-none : length noBytes ≡ 32
-unfolding noBytes
-length-none = length-replicate {A = ℕ} 32 0
-
--- what a callee left in the front
-pub take-front : (n : ℕ) (xs ys : List ℕ) → length xs ≡ n → take n (xs ++ ys) ≡ xs
-take-front n xs ys e = rw (← e) (take-append-seam xs ys)
+pub length-buffer : length readBuffer ≡ greatestRead
+unfolding readBuffer
+length-buffer = length-replicate {A = ℕ} greatestRead 0
 
 -- ---- the call of a line
-
--- a read counts no more than it was asked for
-pub read-counts : (P f position : ℕ) (buffer : List ℕ) (d : Device) → read P f position buffer d .answer .count ≤ length buffer
-read-counts P f position buffer d = read-by P f position buffer d (λ r. r .answer .count ≤ length buffer) (λ k h n. omega arith) (λ ok. omega arith)
 
 pub within-of : (r v : Request) → r ≡ v → Within r → Within v
 within-of r v e h = rw e at h
 
-module _ (request v : Request) (told : request ≡ v) (P : ℕ) (d : Device) (m : Write.Media) (frames : List ℕ) (a : Answer) (shows : Bool) (bytes : List ℕ) (s : CacheState) where
+module _ (request v : Request) (told : request ≡ v) (P : ℕ) (d : Device) (m : Media) (frames : List ℕ) (a : Answer) (reads : Bool) (bytes : List ℕ) (s : CacheState) where
   -- a call that prints no bytes
   pub made-silent : (x : Result Device) (b : Answer) (t : CacheState) → run P (spelled v) d ≡ silent x → give (coded b) (deviceOf m frames t) ≡ x
-      → (a ≡ b) × (s ≡ t) × (shows ≡ false) → Made (run P (spelled request) d) (coded a) shows bytes (deviceOf m frames s)
+      → (a ≡ b) × (s ≡ t) × (reads ≡ false) → Made (run P (spelled request) d) (coded a) reads bytes (deviceOf m frames s)
   made-silent x b t er ex k =
       record {
         ran = rw (told, er, k .0, k .1, k .2) (ap silent ex);
@@ -79,8 +63,8 @@ module _ (request v : Request) (told : request ≡ v) (P : ℕ) (d : Device) (m 
       }
 
   -- a read
-  pub made-read : (f position n : ℕ) → run P (spelled v) d ≡ shown d (read P f position (zeros n) d) → d ≡ deviceOf m frames s → n ≤ 32
-      → give (coded a) (take n bytes) ≡ read P f position (zeros n) d → shows ≡ true → Made (run P (spelled request) d) (coded a) shows bytes (deviceOf m frames s)
+  pub made-read : (f position n : ℕ) → run P (spelled v) d ≡ shown d (read P f position (zeros n) d) → d ≡ deviceOf m frames s → n ≤ greatestRead
+      → give (coded a) (take n bytes) ≡ read P f position (zeros n) d → reads ≡ true → Made (run P (spelled request) d) (coded a) reads bytes (deviceOf m frames s)
   made-read f position n er ed h ex k =
       let e : coded a .count ≡ read P f position (zeros n) d .answer .count = ap (λ (r : Result (List ℕ)). r .answer .count) ex in
       let c : coded a .count ≤ n = omega (arith, e, read-counts P f position (zeros n) d, length-replicate {A = ℕ} n 0) in
@@ -91,37 +75,23 @@ module _ (request v : Request) (told : request ≡ v) (P : ℕ) (d : Device) (m 
 
 -- ---- the line that is printed
 
-number-small : (a : Answer) → coded a .number < 10
-number-small (Done n) = omega arith
-number-small (Refused r) = go r
-  where
-    go : (r : Refusal) → codedRefusal r .number < 10
-    go Line = omega arith
-    go Shape = omega arith
-    go Media = omega arith
-    go Books = omega arith
-    go Down = omega arith
-    go NoFile = omega arith
-    go Range = omega arith
-    go NoRoom = omega arith
-    go (Cut n) = omega arith
-
-pub shown-few : (r : Ran) (a : Coded) (shows : Bool) (bytes : List ℕ) (d : Device) → Made r a shows bytes d → cond shows (a .count) 0 ≤ 32
-shown-few r a shows bytes d m = cases shows (λ e. rw e (m .few e)) (λ e. rw e (omega arith))
+pub shown-few : (r : Ran) (a : Coded) (reads : Bool) (bytes : List ℕ) (d : Device) → Made r a reads bytes d → cond reads (a .count) 0 ≤ greatestRead
+shown-few r a reads bytes d m = cases reads (λ e. rw e (m .few e)) (λ e. rw e (omega arith))
 
 -- no line is longer than `replyBytes`
-pub text-fits : (r : Ran) (a : Answer) (shows : Bool) (bytes : List ℕ) (d : Device) → Made r (coded a) shows bytes d → coded a .count < 2 ^ 64
-    → length (replyLine (coded a) (take (cond shows (coded a .count) 0) bytes)) ≤ replyBytes
-text-fits r a shows bytes d m h =
+pub text-fits : (r : Ran) (a : Answer) (reads : Bool) (bytes : List ℕ) (d : Device) → Made r (coded a) reads bytes d → coded a .count < 2 ^ 64
+    → length (replyLine (coded a) (take (cond reads (coded a .count) 0) bytes)) ≤ replyBytes
+text-fits r a reads bytes d m h =
     let n : length (decimal (coded a .number)) ≡ 1 = length-small (coded a .number) (number-small a) in
-    cases shows
-    (λ e. let f : coded a .count ≤ 32 = m .few e in
+    cases reads
+    (λ e. let f : coded a .count ≤ greatestRead = m .few e in
     rw e (omega (arith, f, n, reply-length (coded a) (take (coded a .count) bytes), decimal-length (coded a .count) 2 (omega (arith, f)) (omega arith), length-take (coded a .count) bytes)))
     (λ e. rw e (omega (arith, n, reply-length (coded a) [], decimal-fits (coded a .count) h)))
 
-pub print-count : (text output : List ℕ) → printAnswer text output .count ≤ length output
-print-count text output =
-    cases (leb (length text) (length output)) (λ e. rw e (leb-true _ _ e)) (λ e. rw e (omega arith))
+-- and that of a read of so many bytes is as long
+reply-greatest : length (replyLine (done greatestRead) (zeros greatestRead)) ≡ replyBytes
+unfolding replyLine decimal
+reply-greatest = refl
 
 -- the answer is printed
 pub run-ends : (P : ℕ) (line output : List ℕ) (d : Device) (a : Coded) (bytes : List ℕ) (after : Device) → length output ≡ replyBytes

@@ -7,22 +7,23 @@ use lib.ListN.{length, take, replicate}
 use Rattle.answer.specs.Coded.{Coded}
 use Rattle.memory.specs.Bytes.{zeros, overwrite}
 use Rattle.device.specs.Device.{Device}
+use Rattle.session_line.specs.Grammar.{greatestWrite, greatestRead}
 use Rattle.session_run.specs.declared.PartialLine.{PartialLine}
 use Rattle.session_run.specs.Session.{Ran}
 use Rattle.session_run.specs.Feeding.{Fed}
 
 -- as many bytes of one value as a line may write
 unfoldable pub sameBytes : ℕ → List ℕ
-sameBytes byte = replicate 4096 byte
+sameBytes byte = replicate greatestWrite byte
 
 -- as many zeros as a line may read
-unfoldable pub noBytes : List ℕ
-noBytes = zeros 32
+unfoldable pub readBuffer : List ℕ
+readBuffer = zeros greatestRead
 
--- a call was made: its answer, and the bytes to print if it shows any, at most 32
-pub record Made (r : Ran) (a : Coded) (shows : Bool) (bytes : List ℕ) (d : Device) : Type 0 where
-  pub ran : record { answer = a; bytes = take (cond shows (a .count) 0) bytes; device = d } ≡ r
-  pub few : shows ≡ true → a .count ≤ 32
+-- a call was made: its answer, and the bytes to print if it is a read
+pub record Made (r : Ran) (a : Coded) (reads : Bool) (bytes : List ℕ) (d : Device) : Type 0 where
+  pub ran : record { answer = a; bytes = take (cond reads (a .count) 0) bytes; device = d } ≡ r
+  pub few : reads ≡ true → a .count ≤ greatestRead
 
 -- input was taken: what it prints, no more than a bound, stands at the front of the output
 pub record Stepped (bound : ℕ) (x : Fed) (d : Device) (line : PartialLine) (before after : List ℕ) (n : ℕ) : Type 0 where

@@ -19,13 +19,13 @@ ghost use Rattle.device.specs.Device.{deviceOf, downState};
 ghost use Rattle.device.specs.Admission.{give};
 ghost use Rattle.device.specs.Reading.{read};
 ghost use Rattle.device.specs.Writing.{write};
-ghost use Rattle.session_line.specs.Grammar.{LF};
+ghost use Rattle.session_line.specs.Grammar.{LF, greatestWrite, greatestRead};
 ghost use Rattle.session_line.specs.Request.{spelled};
 ghost use Rattle.session_line.specs.Reply.{header};
-ghost use Rattle.session_line.specs.Rest.{Within};
+ghost use Rattle.session_line.specs.Parser.{Within};
 ghost use Rattle.session_run.specs.Session.{run};
 ghost use Rattle.session_run.specs.Feeding.{replyBytes, noLine, pushed, restarted, lastEnd, feedByte, runInto, stateOf, feedBlock};
-ghost use Rattle.session_run.specs.Steps.{noBytes, sameBytes, Made, Stepped};
+ghost use Rattle.session_run.specs.Steps.{readBuffer, sameBytes, Made, Stepped};
 
 // The greatest length of a line that is printed.
 pub const REPLY_BYTES: usize = 70;
@@ -53,31 +53,31 @@ pub struct SessionOutcome {
 
 // ---- one line
 
-// What the call of a line gave; the bytes to print are the first of `bytes`, as many as it counts, if it shows any.
+// What the call of a line gave. A read prints the first of `bytes`, as many as it counts; other calls print none.
 struct Call {
     answer: Answer,
     cache: CacheState,
-    shows: bool,
+    reads: bool,
     bytes: [u8; 32],
 }
 
 // As many zeros as a line may read.
-fn no_bytes() -> [u8; 32]
-    ensures { λ r. ⌜ r ≡ noBytes ⌝ }
+fn read_buffer() -> [u8; 32]
+    ensures { λ r. ⌜ r ≡ readBuffer ⌝ }
 {
     [0; 32]
 }
 
 fn silent(outcome: Outcome) -> Call
-    ensures { λ r. ⌜ (r .answer ≡ outcome .answer) × (r .cache ≡ outcome .cache) × (r .shows ≡ false) ⌝ }
+    ensures { λ r. ⌜ (r .answer ≡ outcome .answer) × (r .cache ≡ outcome .cache) × (r .reads ≡ false) ⌝ }
 {
     let answer = outcome.answer;
     let cache = outcome.cache;
     Call {
         answer,
         cache,
-        shows: false,
-        bytes: no_bytes(),
+        reads: false,
+        bytes: read_buffer(),
     }
 }
 
@@ -99,7 +99,7 @@ fn write_bytes(
     length: usize,
     byte: u8,
 ) -> Outcome
-    requires { ⌜ length ≤ 4096 ⌝ }
+    requires { ⌜ length ≤ greatestWrite ⌝ }
     ensures { λ r. ⌜ give (coded (r .answer)) (deviceOf (mediaOf (now (media .entry)) (now (sizes .entry))) (now (frames .exit)) (r .cache))
         ≡ write pagesPerFile file position (replicate length byte) (deviceOf (mediaOf (now (media .entry)) (now (sizes .entry))) (now (frames .entry)) cache) ⌝ }
 {
@@ -125,12 +125,12 @@ fn read_bytes(
     position: usize,
     length: usize,
 ) -> Call
-    requires { ⌜ length ≤ 32 ⌝ }
+    requires { ⌜ length ≤ greatestRead ⌝ }
     ensures { λ r. ⌜ (give (coded (r .answer)) (take length (r .bytes))
         ≡ read pagesPerFile file position (zeros length) (deviceOf (mediaOf (now (media .entry)) (now (sizes .entry))) (now (frames .entry)) cache))
-        × (r .cache ≡ cache) × (r .shows ≡ true) ⌝ }
+        × (r .cache ≡ cache) × (r .reads ≡ true) ⌝ }
 {
-    let mut bytes = no_bytes();
+    let mut bytes = read_buffer();
     let answer = cache::read(
         media,
         sizes,
@@ -143,13 +143,13 @@ fn read_bytes(
     Call {
         answer,
         cache,
-        shows: true,
+        reads: true,
         bytes,
     }
 }
 
 // The call that a line asks for.
-fn make(
+fn execute(
     media: &mut [u8],
     sizes: &mut [u32],
     frames: &mut [u8],
@@ -158,7 +158,7 @@ fn make(
 ) -> Call
     requires { ⌜ Within request ⌝ }
     ensures { λ r. ⌜ Made (run pagesPerFile (spelled request) (deviceOf (mediaOf (now (media .entry)) (now (sizes .entry))) (now (frames .entry)) cache))
-        (coded (r .answer)) (r .shows) (r .bytes) (deviceOf (mediaOf (now (media .exit)) (now (sizes .exit))) (now (frames .exit)) (r .cache)) ⌝ }
+        (coded (r .answer)) (r .reads) (r .bytes) (deviceOf (mediaOf (now (media .exit)) (now (sizes .exit))) (now (frames .exit)) (r .cache)) ⌝ }
 {
     match request {
         Request::Format(budget) => silent(cache::format(media, sizes, cache, budget)),
@@ -193,16 +193,16 @@ fn make(
 }
 
 // How many bytes are printed of a call that counts so many.
-fn shown(count: usize, shows: bool) -> usize
-    ensures { λ r. ⌜ r ≡ cond shows count 0 ⌝ }
+fn shown(count: usize, reads: bool) -> usize
+    ensures { λ r. ⌜ r ≡ cond reads count 0 ⌝ }
 {
-    if shows {
+    if reads {
         return count;
     }
     0
 }
 
-// Runs one line, without its LF, and prints its answer at the front of the output, which has 70 bytes, or else it is SHAPE. The
+// Runs one line, without its LF, and prints its answer at the front of the output; SHAPE unless that has exactly 70 bytes. The
 // count is the number of bytes printed, which is never above 70; the rest of the output keeps its bytes.
 pub fn run_line(
     media: &mut [u8],
@@ -218,10 +218,10 @@ pub fn run_line(
 {
     if output.len() == REPLY_BYTES {
         let request = session_line::parse(line);
-        let made = make(media, sizes, frames, cache, request);
+        let made = execute(media, sizes, frames, cache, request);
         let answer = made.answer;
         let bytes = made.bytes;
-        let n = shown(answer::count(answer), made.shows);
+        let n = shown(answer::count(answer), made.reads);
         let printed = session_line::print(answer, &bytes[..n], output);
         let state = made.cache;
         return Outcome {

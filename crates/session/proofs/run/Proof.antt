@@ -44,37 +44,49 @@ loop-less c =
 loop-again : tie.Need-loop-again Inv-loop μ-loop
 loop-again c =
     let k = c .before .before .before .before .before .before .before .before .before .before .before .before .serve-block .kept in
-    let l = c .before .before .before .before .before .before .before .before .before .before .before .before .before .before .before .before .before .before .before .loop .inv in
+    let l =
+    c .before .before .before .before .before .before .before .before .before .before .before .before .before .before .before .before .before
+    .before .before .loop .inv in
     (k .0 ∙ l .0, k .1 .0 ∙ l .1, k .1 .1 .0 ∙ l .2, k .1 .1 .1 .1 .0 ∙ l .3, k .1 .1 .1 .1 .1 .0 ∙ l .4)
 
 same-length : tie.Need-same-length Inv-loop μ-loop
 same-length c =
     let k = c .before .before .before .before .before .before .before .before .before .before .before .serve-block .kept in
-    let l = c .before .before .before .before .before .before .before .before .before .before .before .before .before .before .before .before .before .before .loop .inv in
+    let l =
+    c .before .before .before .before .before .before .before .before .before .before .before .before .before .before .before .before .before
+    .before .loop .inv in
     k .0 ∙ l .0
 
 same-length-2 : tie.Need-same-length-2 Inv-loop μ-loop
 same-length-2 c =
     let k = c .before .before .before .before .before .before .before .before .before .before .before .serve-block .kept in
-    let l = c .before .before .before .before .before .before .before .before .before .before .before .before .before .before .before .before .before .before .loop .inv in
+    let l =
+    c .before .before .before .before .before .before .before .before .before .before .before .before .before .before .before .before .before
+    .before .loop .inv in
     k .1 .0 ∙ l .1
 
 same-length-3 : tie.Need-same-length-3 Inv-loop μ-loop
 same-length-3 c =
     let k = c .before .before .before .before .before .before .before .before .before .before .before .serve-block .kept in
-    let l = c .before .before .before .before .before .before .before .before .before .before .before .before .before .before .before .before .before .before .loop .inv in
+    let l =
+    c .before .before .before .before .before .before .before .before .before .before .before .before .before .before .before .before .before
+    .before .loop .inv in
     k .1 .1 .0 ∙ l .2
 
 same-length-4 : tie.Need-same-length-4 Inv-loop μ-loop
 same-length-4 c =
     let k = c .before .before .before .before .before .before .before .before .before .before .before .serve-block .kept in
-    let l = c .before .before .before .before .before .before .before .before .before .before .before .before .before .before .before .before .before .before .loop .inv in
+    let l =
+    c .before .before .before .before .before .before .before .before .before .before .before .before .before .before .before .before .before
+    .before .loop .inv in
     k .1 .1 .1 .1 .0 ∙ l .3
 
 same-length-5 : tie.Need-same-length-5 Inv-loop μ-loop
 same-length-5 c =
     let k = c .before .before .before .before .before .before .before .before .before .before .before .serve-block .kept in
-    let l = c .before .before .before .before .before .before .before .before .before .before .before .before .before .before .before .before .before .before .loop .inv in
+    let l =
+    c .before .before .before .before .before .before .before .before .before .before .before .before .before .before .before .before .before
+    .before .loop .inv in
     k .1 .1 .1 .1 .1 .0 ∙ l .4
 
 returns : tie.Need-returns Inv-loop μ-loop

@@ -1,9 +1,8 @@
--- `session::serve_block` meets its contract: what is written lies within the output.
+-- `session::serve_block` is safe: there is room for what a block prints, and what is written lies within the output.
 use mathlib.Core.Path.{sym}
 use native.Mathlib.Omega.{arith}
 use borrow.Author.Needs.{needs}
 use Rattle.memory.proofs.Bytes.{length-front}
-use Rattle.io.proofs.count.Reads as count-reads′
 use Rattle.session.proofs.serve_block.Statement.{statement}
 use Rattle.session.proofs.serve_block.Tie as tie
 
@@ -31,20 +30,16 @@ same-length-2 c = search needs
 returns-2 : tie.Need-returns-2
 returns-2 c = search needs
 
-finish-requires : tie.Need-finish-requires
-finish-requires c κs = search needs
-
-count-requires : tie.Need-count-requires
-count-requires c κs = search needs
+run-end-requires : tie.Need-run-end-requires
+run-end-requires c κs = search needs
 
 slice-reshare-prefix-write-out : tie.Need-slice-reshare-prefix-write-out
 slice-reshare-prefix-write-out c = search needs
 
 slice-aggregate-write-out : tie.Need-slice-aggregate-write-out
 slice-aggregate-write-out c =
-    let k = c .before .before .before .before .before .before .before .before .before .before in
-    sym
-    (length-front (c .before .count .result) (k .finish .last .1 .1 .1 .1 .0) (omega (arith, c .before .count .ensures, k .finish .ensures .1, k .finish .kept .1 .1 .1 .1 .0)))
+    let k = c .before .before .before .before .before .before .before .before .before .run-end in
+    sym (length-front (k .result .count) (k .last .1 .1 .1 .1 .0) (omega (arith, k .ensures .count, k .ensures .fits, k .kept .1 .1 .1 .1 .0)))
 
 write-out-requires : tie.Need-write-out-requires
 write-out-requires c κs = search needs
@@ -67,29 +62,25 @@ same-length-7 c = search needs
 returns-3 : tie.Need-returns-3
 returns-3 c = search needs
 
-count-requires-2 : tie.Need-count-requires-2
-count-requires-2 c κs = search needs
+count-requires : tie.Need-count-requires
+count-requires c κs = search needs
 
-slice-reshare-prefix-feed : tie.Need-slice-reshare-prefix-feed
-slice-reshare-prefix-feed c = search needs
+slice-reshare-prefix-run-block : tie.Need-slice-reshare-prefix-run-block
+slice-reshare-prefix-run-block c = search needs
 
-slice-aggregate-feed : tie.Need-slice-aggregate-feed
-slice-aggregate-feed c = search needs
+slice-aggregate-run-block : tie.Need-slice-aggregate-run-block
+slice-aggregate-run-block c = search needs
 
-feed-requires : tie.Need-feed-requires
-feed-requires c κs = search needs
-
-count-requires-3 : tie.Need-count-requires-3
-count-requires-3 c κs = search needs
+run-block-requires : tie.Need-run-block-requires
+run-block-requires c κs = search needs
 
 slice-reshare-prefix-write-out-2 : tie.Need-slice-reshare-prefix-write-out-2
 slice-reshare-prefix-write-out-2 c = search needs
 
 slice-aggregate-write-out-2 : tie.Need-slice-aggregate-write-out-2
 slice-aggregate-write-out-2 c =
-    let k = c .before .before .before .before .before .before .before .before .before .before .before in
-    sym
-    (length-front (c .before .before .count3 .result) (k .feed .last .1 .1 .1 .1 .1 .0) (omega (arith, c .before .before .count3 .ensures, k .feed .ensures .1, k .feed .kept .1 .1 .1 .1 .1 .0)))
+    let k = c .before .before .before .before .before .before .before .before .before .before .run-block in
+    sym (length-front (k .result .count) (k .last .1 .1 .1 .1 .1 .0) (omega (arith, k .ensures .count, k .ensures .fits, k .kept .1 .1 .1 .1 .1 .0)))
 
 write-out-requires-2 : tie.Need-write-out-requires-2
 write-out-requires-2 c κs = search needs
@@ -124,8 +115,7 @@ serve-block-spec =
     returns
     same-length-2
     returns-2
-    finish-requires
-    count-requires
+    run-end-requires
     slice-reshare-prefix-write-out
     slice-aggregate-write-out
     write-out-requires
@@ -135,11 +125,10 @@ serve-block-spec =
     same-length-6
     same-length-7
     returns-3
-    count-requires-2
-    slice-reshare-prefix-feed
-    slice-aggregate-feed
-    feed-requires
-    count-requires-3
+    count-requires
+    slice-reshare-prefix-run-block
+    slice-aggregate-run-block
+    run-block-requires
     slice-reshare-prefix-write-out-2
     slice-aggregate-write-out-2
     write-out-requires-2

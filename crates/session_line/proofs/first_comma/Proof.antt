@@ -6,7 +6,7 @@ use lib.ListN.{length}
 use borrow.Author.Needs.{needs}
 use borrow.Author.Tests.{eq-eqb, ne-eqb}
 use Rattle.scan.proofs.Loops.{Searched, searched-none, searched-here, searched-next, searched-end}
-use Rattle.session_line.specs.Rest.{isComma}
+use Rattle.session_line.specs.Parser.{isComma}
 use Rattle.session_line.proofs.first_comma.Statement.{statement}
 use Rattle.session_line.proofs.first_comma.Tie as tie
 

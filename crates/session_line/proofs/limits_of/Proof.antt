@@ -2,7 +2,7 @@
 use native.Mathlib.Omega.{arith}
 use borrow.Author.Tests.{ne-eqb}
 use Rattle.session_line.specs.Grammar.{forms}
-use Rattle.session_line.specs.Rest.{limitsOf}
+use Rattle.session_line.specs.Parser.{limitsOf}
 use Rattle.session_line.proofs.limits_of.Statement.{statement}
 use Rattle.session_line.proofs.limits_of.Tie as tie
 

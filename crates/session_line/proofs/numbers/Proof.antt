@@ -9,7 +9,7 @@ use borrow.Author.Needs.{needs}
 use Rattle.memory.proofs.Bytes.{length-front}
 use Rattle.scan.specs.Scan.{firstIndex}
 use Rattle.session_line.specs.Grammar.{value, isNumber}
-use Rattle.session_line.specs.Rest.{isComma}
+use Rattle.session_line.specs.Parser.{isComma}
 use Rattle.session_line.proofs.Grammar.{rest-whole, fieldAfter, field-text, length-field, Parsing, parsing-none, parsing-end, parsing-short, parsing-stop, parsing-next, end-within, unfit, number-parts}
 use Rattle.session_line.proofs.numbers.Statement.{statement}
 use Rattle.session_line.proofs.numbers.Tie as tie

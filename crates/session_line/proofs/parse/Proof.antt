@@ -5,7 +5,7 @@ use lib.ListN.{getD, drop}
 use borrow.Author.Needs.{needs}
 use Rattle.scan.specs.Scan.{firstIndex}
 use Rattle.scan.proofs.Scan.{first-le}
-use Rattle.session_line.specs.Rest.{isComma, restFields, limitsOf, Values}
+use Rattle.session_line.specs.Parser.{isComma, restFields, limitsOf, Values}
 use Rattle.session_line.proofs.Grammar.{values-fitting, parse-long, parse-no-letter, parse-unfit, parse-fit}
 use Rattle.session_line.proofs.parse.Statement.{statement}
 use Rattle.session_line.proofs.parse.Tie as tie

@@ -5,7 +5,7 @@ use lib.ListN.{getD}
 use borrow.Author.Tests.{ne-eqb}
 use borrow.Author.Needs.{needs}
 use Rattle.session_line.specs.Grammar.{forms, F, M, W, T, S, R}
-use Rattle.session_line.specs.Rest.{limitsOf}
+use Rattle.session_line.specs.Parser.{limitsOf}
 use Rattle.session_line.proofs.Grammar.{with-four, fitting}
 use Rattle.session_line.proofs.request_of.Statement.{statement}
 use Rattle.session_line.proofs.request_of.Tie as tie

@@ -12,26 +12,28 @@ use Rattle.media.specs.Geometry.{pagesPerFile}
 use Rattle.media.specs.Write.{mediaOf}
 use Rattle.device.specs.Device.{deviceOf}
 use Rattle.session_line.specs.Reply.{replyLine}
+use Rattle.session_line.specs.Grammar.{greatestRead}
+use Rattle.session_line.proofs.Reply.{print-count}
 use Rattle.session_run.specs.Session.{runLine}
 use Rattle.session_run.specs.Feeding.{runInto}
-use Rattle.session_run.proofs.Steps.{shown-few, text-fits, print-count, run-ends}
+use Rattle.session_run.proofs.Steps.{shown-few, text-fits, run-ends}
 use Rattle.session_run.proofs.run_line.Statement.{statement}
 use Rattle.session_run.proofs.run_line.Tie as tie
 
 -- how many bytes are printed
-shown-is : (c : tie.After-shown) → c .shown .result ≡ cond (c .before .before .before .before .before .before .before .before .before .make .result .shows) (coded (c .before .before .before .before .before .before .before .before .before .make .result .answer) .count) 0
+shown-is : (c : tie.After-shown) → c .shown .result ≡ cond (c .before .before .before .before .before .before .before .before .before .execute .result .reads) (coded (c .before .before .before .before .before .before .before .before .before .execute .result .answer) .count) 0
 shown-is c = rw (c .before .count .ensures) at (c .shown .ensures)
 
-few : (c : tie.After-shown) → c .shown .result ≤ length (c .before .before .before .before .before .before .before .before .before .make .result .bytes)
+few : (c : tie.After-shown) → c .shown .result ≤ length (c .before .before .before .before .before .before .before .before .before .execute .result .bytes)
 few c =
-    let n : length (c .before .before .before .before .before .before .before .before .before .make .result .bytes) ≡ 32 = search needs in
-    omega (arith, n, shown-is c, shown-few _ _ _ _ _ (c .before .before .before .before .before .before .before .before .before .make .ensures))
+    let n : length (c .before .before .before .before .before .before .before .before .before .execute .result .bytes) ≡ greatestRead = search needs in
+    omega (arith, n, shown-is c, shown-few _ _ _ _ _ (c .before .before .before .before .before .before .before .before .before .execute .ensures))
 
 parse-requires : tie.Need-parse-requires
 parse-requires c κs = search needs
 
-make-requires : tie.Need-make-requires
-make-requires c κs = search needs
+execute-requires : tie.Need-execute-requires
+execute-requires c κs = search needs
 
 count-requires : tie.Need-count-requires
 count-requires c κs = search needs
@@ -70,11 +72,11 @@ returns c =
     .before .before .before .before .before .before .before .before .before .args in
     let d = deviceOf (mediaOf (a .media .now) (a .sizes .now)) (a .frames .now) (a .cache) in
     let p = c .before .before .before .print .ensures in
-    let w : coded (k .make .result .answer) .count < 2 ^ 64 = omega (arith, q .before .count .ensures) in
-    let f = text-fits _ (k .make .result .answer) (k .make .result .shows) (k .make .result .bytes) _ (k .make .ensures) w in (
+    let w : coded (k .execute .result .answer) .count < 2 ^ 64 = omega (arith, q .before .count .ensures) in
+    let f = text-fits _ (k .execute .result .answer) (k .execute .result .reads) (k .execute .result .bytes) _ (k .execute .ensures) w in (
       rw (p .0, p .1, shown-is q)
-          (run-ends pagesPerFile (a .line .now) (a .output .now) d (coded (k .make .result .answer)) _ _ (omega arith) (rw (k .before .before .before .before .parse .ensures .0) at (k .make .ensures .ran)) f),
-      rw (p .0) (omega (arith, print-count (replyLine (coded (k .make .result .answer)) (take (q .shown .result) (k .make .result .bytes))) (a .output .now))),
+          (run-ends pagesPerFile (a .line .now) (a .output .now) d (coded (k .execute .result .answer)) _ _ (omega arith) (rw (k .before .before .before .before .parse .ensures .0) at (k .execute .ensures .ran)) f),
+      rw (p .0) (omega (arith, print-count (replyLine (coded (k .execute .result .answer)) (take (q .shown .result) (k .execute .result .bytes))) (a .output .now))),
     )
 
 returns-2 : tie.Need-returns-2
@@ -86,7 +88,7 @@ run-line-spec =
     tie.close
     (tie.spec
     parse-requires
-    make-requires
+    execute-requires
     count-requires
     shown-requires
     array-share-prefix-bytes

@@ -1,4 +1,4 @@
--- What the parts of the parser say: the rest of a line, the form of a letter, and the numbers of a form.
+-- What the parts of the parser say: the rest of a line, the form of a letter, the numbers of a form.
 use mathlib.Core.Path.{_≡_}
 use mathlib.Core.Bool.{Bool, true, cond}
 use mathlib.Core.List.{List, [], _∷_, map}
@@ -7,7 +7,7 @@ use lib.Dec.{eqb}
 use lib.ListN.{length, getD, take}
 use Rattle.session_line.specs.declared.Request.{Request}
 use Rattle.session_line.specs.declared.Request.the-variants.{Format, Mount, Write, Truncate, Sync, Read, Malformed}
-use Rattle.session_line.specs.Grammar.{fields, comma, value, Form, forms, numbersFit, Command, command, malformed}
+use Rattle.session_line.specs.Grammar.{greatestWrite, greatestRead, fields, comma, value, Form, forms, numbersFit, Command, command, malformed}
 
 abbrev pub isComma : ℕ → Bool
 isComma c = eqb c comma
@@ -43,8 +43,8 @@ pub record Values (limits : List ℕ) (ts : List (List ℕ)) (fit : Bool) (value
 abbrev pub Within : Request → Type 0
 Within (Format budget) = Unit {0}
 Within (Mount budget) = Unit {0}
-Within (Write file position length byte) = length ≤ 4096
+Within (Write file position length byte) = length ≤ greatestWrite
 Within (Truncate file n) = Unit {0}
 Within (Sync file budget) = Unit {0}
-Within (Read file position length) = length ≤ 32
+Within (Read file position length) = length ≤ greatestRead
 Within Malformed = Unit {0}

@@ -7,12 +7,12 @@ use Rattle.device.specs.Admission.{give}
 use Rattle.device.specs.Device.{deviceOf}
 use Rattle.session_run.specs.Session.{run}
 use Rattle.session_run.proofs.Steps.{within-of, made-silent, made-read}
--- `session_run::make` meets its contract: each line makes its call.
+-- `session_run::execute` meets its contract: each line makes its call.
 use mathlib.Core.Path.{_≡_, refl, sym, ap, _∙_}
 use native.Mathlib.Omega.{arith}
 use borrow.Author.Needs.{needs}
-use Rattle.session_run.proofs.make.Statement.{statement}
-use Rattle.session_run.proofs.make.Tie as tie
+use Rattle.session_run.proofs.execute.Statement.{statement}
+use Rattle.session_run.proofs.execute.Tie as tie
 
 enum-known-request : tie.Need-enum-known-request
 enum-known-request c = search needs
@@ -170,7 +170,7 @@ returns-6 c =
     let q = c .before .before .before .before .before .request6 .given .1 in
     let e = c .read-bytes .ensures in
     made-read (a .request) _ q pagesPerFile (deviceOf (mediaOf (a .media .now) (a .sizes .now)) (a .frames .now) (a .cache))
-    (mediaOf (a .media .now) (a .sizes .now)) (a .frames .now) (c .read-bytes .result .answer) (c .read-bytes .result .shows)
+    (mediaOf (a .media .now) (a .sizes .now)) (a .frames .now) (c .read-bytes .result .answer) (c .read-bytes .result .reads)
     (c .read-bytes .result .bytes) (c .read-bytes .result .cache) _ _ _ refl
     (ap (deviceOf (mediaOf (a .media .now) (a .sizes .now)) (a .frames .now)) (sym (e .1)))
     (within-of _ _ q (c .before .before .before .before .before .before .before .before .before .before .pre)) (e .0) (e .2)
@@ -184,8 +184,8 @@ returns-7 c =
     _ (give LINE (deviceOf (mediaOf (a .media .now) (a .sizes .now)) (a .frames .now) (a .cache))) (Refused Line) (a .cache) refl refl
     (c .silent6 .ensures)
 
-pub make-spec : {M : Type 1} → statement M
-make-spec =
+pub execute-spec : {M : Type 1} → statement M
+execute-spec =
     tie.close
     (tie.spec
     enum-known-request
