@@ -132,7 +132,7 @@ impl Difference {
         );
         show(&mut text, self.shortest.lines.iter().map(Vec::as_slice));
         if self.shortest.feed != Feed::Whole {
-            text.push_str("  (fed in pieces with pauses; it does not show if fed whole)\n");
+            text.push_str("  (fed in pieces with pauses)\n");
         }
         text.push_str("expected output:\n");
         show_output(&mut text, &self.expected);

@@ -93,10 +93,10 @@ fn pieces_reach_a_right_program_whole() {
 
 #[test]
 fn pieces_show_a_program_that_stops_at_a_short_read() {
-    let input = b"M,0\nW,1,0,300,65\nR,1,254,4\n".repeat(2000);
+    // Larger than a pipe holds, so that the program cannot have all of it at once.
+    let input = b"M,0\nW,1,0,300,65\nR,1,254,4\n".repeat(20_000);
     let expected = run_bytes(&input);
     let mut program = faulty("short", Duration::from_secs(60));
-    // It takes luck with the timing, but not much.
     let shown = (0..10).any(|seed| program.run(&input, Feed::Pieces(seed)).stdout != expected);
     assert!(shown);
 }

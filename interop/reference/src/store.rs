@@ -508,7 +508,7 @@ pub fn sync(
             }
             MediaWrite::Size { size } => store_size(sizes, file, size),
         };
-        debug_assert!(stored.is_ok());
+        assert!(stored.is_ok());
     }
     if budget < plan.len() {
         *state = CacheState::DOWN;
@@ -587,7 +587,7 @@ fn trim_all(
 ) -> Answer {
     for &(file, size) in plan.iter().take(budget) {
         let stored = trim(media, sizes, file, size);
-        debug_assert!(stored.is_ok());
+        assert!(stored.is_ok());
     }
     if budget < plan.len() {
         *state = CacheState::DOWN;
