@@ -40,7 +40,7 @@ module _ (P : ℕ) where
   feed-join [] ys d p = refl
   feed-join (x ∷ xs) ys d p =
       let y : Fed = feedByte P x d p in
-      rw (← feed-join xs ys (y .device) (y .line)) (sym (after-after (y .text) (feed P xs (y .device) (y .line) .text) _))
+      sym (after-after (y .text) (feed P xs (y .device) (y .line) .text) _) ∙ ap (after (y .text)) (feed-join xs ys (y .device) (y .line))
 
 -- ---- one byte after another
 

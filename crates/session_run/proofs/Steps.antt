@@ -69,7 +69,7 @@ module _ (request v : Request) (told : request ≡ v) (P : ℕ) (d : Device) (m 
       let e : coded a .count ≡ read P f position (zeros n) d .answer .count = ap (λ (r : Result (List ℕ)). r .answer .count) ex in
       let c : coded a .count ≤ n = omega (arith, e, read-counts P f position (zeros n) d, length-replicate {A = ℕ} n 0) in
       record {
-        ran = rw (told, er, k, ← ed, ← ex, take-take _ _ bytes c);
+        ran = rw (told, er, k, ← ed, ← ex) (ap (λ (l : List ℕ). record { answer = coded a; bytes = l; device = d }) (sym (take-take _ _ bytes c)));
         few = λ q. omega (arith, c);
       }
 
@@ -111,7 +111,7 @@ kept-line p n h e =
     split-lt keptBytes (p .length)
     (λ k. let a : length (p .bytes) ≤ n = omega (arith, h, e) in
     let b : length (p .bytes) ≤ p .length = omega (arith, h) in
-    rw (take-all n (p .bytes) a, take-all (p .length) (p .bytes) b))
+    take-all n (p .bytes) a ∙ sym (take-all (p .length) (p .bytes) b))
     (λ k. let a : n ≡ p .length = omega (arith, e) in ap (λ (j : ℕ). take j (p .bytes)) a)
 
 -- the line has ended, and was run

@@ -14,7 +14,7 @@ read-buffer-requires : tie.Need-read-buffer-requires
 read-buffer-requires c κs = search needs
 
 array-borrow-prefix-bytes : tie.Need-array-borrow-prefix-bytes
-array-borrow-prefix-bytes c = search needs
+array-borrow-prefix-bytes c = rw (c .read-buffer .ensures) (omega (arith, length-buffer))
 
 slice-aggregate-read : tie.Need-slice-aggregate-read
 slice-aggregate-read c =

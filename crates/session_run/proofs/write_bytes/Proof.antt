@@ -13,7 +13,9 @@ same-bytes-requires : tie.Need-same-bytes-requires
 same-bytes-requires c κs = search needs
 
 array-share-prefix-bytes : tie.Need-array-share-prefix-bytes
-array-share-prefix-bytes c = search needs
+array-share-prefix-bytes c =
+    let a = c .before .before .before .before .before .args in
+    rw (c .before .same-bytes .ensures) (omega (arith, length-same (a .byte)))
 
 slice-aggregate-write : tie.Need-slice-aggregate-write
 slice-aggregate-write c =
