@@ -1,0 +1,161 @@
+/*
+ * boxstore: eight files of up to 4,096 bytes on one media part, behind a cache of 24 pages, safe against loss of power.
+ *
+ * Link target/staticlib/libboxstore.a, which `rt staticlib boxstore` writes. The library keeps nothing between calls: the caller
+ * owns all memory and lends it to each call, as a pointer and a number of elements:
+ *
+ *   media    32,768 bytes   the bytes of the part; byte i of file f is at 4,096 * f + i
+ *   sizes    8 numbers      the stored size of each file
+ *   frames   6,144 bytes    the bytes of the cached pages; slot k has those from 256 * k on
+ *   state    137 bytes      the cache state, laid out as said below
+ *
+ * media and sizes stand for what survives a loss of power; frames and state do not survive it. After one, make the state down
+ * (boxstore_down) and mount.
+ *
+ * Every call ends on every input: all numbers, lengths and contents are allowed. It writes only to what it is lent without
+ * `const`. What the C compiler cannot check is asked of the caller: a pointer is not null (not even beside the length 0), is
+ * aligned for its type, and has that many elements behind it; and what a call may write overlaps nothing else that it is lent.
+ *
+ * The answer is one word, 65,536 * number + count. Number 0 is done, so a done call answers its count, below
+ * BOXSTORE_REFUSED. Otherwise the number says why the call was refused, and is the first of these that applies:
+ *
+ *   2 SHAPE     media, sizes, frames or state, where lent, has another length than above
+ *   3 MEDIA     a stored size is above 4,096 (not from format)
+ *   4 BOOKS     the state is not sound (not from mount or format)
+ *   5 DOWN      the state is down (not from mount or format)
+ *   6 NO FILE   the file number is above 7
+ *   7 RANGE     a position, a size, or position + length of a write is above 4,096
+ *   8 NO ROOM   a write of at least one byte whose first page is not cached while 24 pages are
+ *   9 CUT       sync, mount and format: the budget is below the media writes needed
+ *
+ * A refusal of 2 to 8 has count 0 and leaves all memory as it came. CUT has the budget as its count: that many first media
+ * writes were done, and the state is down, as after a loss of power at that moment.
+ *
+ * The cache state, byte by byte:
+ *
+ *     0              1 where the device is mounted, 0 where it is down
+ *     1 + 3 * k      slot k, from 0 to 23: 1 where it is used, 0 where it is free; then its file, then its page
+ *    73 + 4 * f      logical size of file f, as read and write see it: 4 bytes, low byte first
+ *   105 + 4 * f      floor of file f, the smallest of its stored size and of all truncates since the last sync or mount: alike
+ *
+ * The down state is 137 bytes of 0. A state is sound where byte 0 is 0 or 1; used slots name files 0 to 7 and pages 0 to 15, none
+ * twice, and free slots are three bytes of 0; of each file floor <= logical size <= 4,096 and floor <= stored size; and where
+ * byte 0 is 0, all other bytes are 0 too.
+ */
+#ifndef BOXSTORE_H
+#define BOXSTORE_H
+
+#include <stddef.h>
+#include <stdint.h>
+
+#ifdef __cplusplus
+extern "C" {
+#endif
+
+#define BOXSTORE_FILES 8
+#define BOXSTORE_FILE_BYTES 4096
+#define BOXSTORE_MEDIA_BYTES 32768
+#define BOXSTORE_FRAMES_BYTES 6144
+#define BOXSTORE_STATE_BYTES 137
+
+/* The most media writes that a sync needs, and that a mount or a format needs: a budget that is never CUT. */
+#define BOXSTORE_SYNC_WRITES 18
+#define BOXSTORE_MOUNT_WRITES 8
+
+/* An answer from here on is a refusal. */
+#define BOXSTORE_REFUSED 65536u
+
+enum boxstore_answer {
+    BOXSTORE_DONE = 0,
+    BOXSTORE_SHAPE = 2,
+    BOXSTORE_MEDIA = 3,
+    BOXSTORE_BOOKS = 4,
+    BOXSTORE_DOWN = 5,
+    BOXSTORE_NO_FILE = 6,
+    BOXSTORE_RANGE = 7,
+    BOXSTORE_NO_ROOM = 8,
+    BOXSTORE_CUT = 9
+};
+
+/* The number of an answer, and its count. */
+static inline unsigned boxstore_number(uint32_t answer) { return answer >> 16; }
+static inline size_t boxstore_count(uint32_t answer) { return answer & 65535u; }
+
+/* Down: the state becomes the down state, as at the start and after a loss of power. Answers 0, or SHAPE. */
+uint32_t boxstore_down(uint8_t *state, size_t state_len);
+
+/* Format: empties all files; the device is down after it. Counts the media writes. For new media, and only there: it ends
+ * what the files hold. */
+uint32_t boxstore_format(uint8_t *media, size_t media_len, uint32_t *sizes, size_t sizes_len,
+                         uint8_t *state, size_t state_len, size_t budget);
+
+/* Mount: brings the device up, from whatever state, with no page cached: what was not synced is gone. Bytes past a stored size
+ * are cleared first. Counts the media writes. */
+uint32_t boxstore_mount(uint8_t *media, size_t media_len, uint32_t *sizes, size_t sizes_len,
+                        uint8_t *state, size_t state_len, size_t budget);
+
+/* Read: copies bytes of a file, from a position on, into the front of the buffer: as many as it takes, up to the logical size.
+ * Counts them; 0 at or past the logical size. The rest of the buffer keeps its bytes. */
+uint32_t boxstore_read(const uint8_t *media, size_t media_len, const uint32_t *sizes, size_t sizes_len,
+                       const uint8_t *frames, size_t frames_len, const uint8_t *state, size_t state_len,
+                       size_t file, size_t position, uint8_t *buffer, size_t buffer_len);
+
+/* Write: puts bytes into cached pages, ascending, and counts them. Fewer than asked where a page finds all slots taken: sync a
+ * file, then write the rest. Nothing is on the media before a sync. */
+uint32_t boxstore_write(const uint8_t *media, size_t media_len, const uint32_t *sizes, size_t sizes_len,
+                        uint8_t *frames, size_t frames_len, uint8_t *state, size_t state_len,
+                        size_t file, size_t position, const uint8_t *bytes, size_t bytes_len);
+
+/* Truncate: the file has n bytes after it; it is cut, or filled with zeros. The count is 0. */
+uint32_t boxstore_truncate(const uint8_t *media, size_t media_len, const uint32_t *sizes, size_t sizes_len,
+                           uint8_t *frames, size_t frames_len, uint8_t *state, size_t state_len,
+                           size_t file, size_t n);
+
+/* Sync: stores a file: its truncation, its cached pages ascending, its size last. Its slots are free after it. Counts the media
+ * writes. The budget is the number of media writes that can still be paid for. */
+uint32_t boxstore_sync(uint8_t *media, size_t media_len, uint32_t *sizes, size_t sizes_len,
+                       const uint8_t *frames, size_t frames_len, uint8_t *state, size_t state_len,
+                       size_t file, size_t budget);
+
+/* Look count: as count the bytes from the position to the end of its page or to the logical size, the nearer. */
+uint32_t boxstore_look_count(const uint8_t *media, size_t media_len, const uint32_t *sizes, size_t sizes_len,
+                             const uint8_t *frames, size_t frames_len, const uint8_t *state, size_t state_len,
+                             size_t file, size_t position);
+
+/* Look: where the bytes from the position on lie, to the end of its page at most, without a copy. One word:
+ * 2^32 * offset + 65,536 * source + count, source 0 for the media and 1 for the frames. The count is 0, and the word too, on a
+ * refusal; it is 0 at or past the logical size, and in zeros that no buffer has. Where it is less than that of
+ * boxstore_look_count, the rest are zeros. */
+uint64_t boxstore_look(const uint8_t *media, size_t media_len, const uint32_t *sizes, size_t sizes_len,
+                       const uint8_t *frames, size_t frames_len, const uint8_t *state, size_t state_len,
+                       size_t file, size_t position);
+
+/* The part that a look names, of the media and the frames that it was given: its first byte, and its length. */
+static inline const uint8_t *boxstore_looked_at(uint64_t look, const uint8_t *media, const uint8_t *frames)
+{
+    return ((look >> 16) & 1 ? frames : media) + (size_t)(look >> 32);
+}
+static inline size_t boxstore_looked_len(uint64_t look) { return (size_t)(look & 65535u); }
+
+/* The truncate rule on the sizes of one file: three numbers, logical size, floor and stored size, and the greatest file size.
+ * SHAPE where there are not three; BOOKS unless floor <= logical size <= greatest and floor <= stored size; RANGE where n is
+ * above the greatest. */
+uint32_t boxstore_truncate_sizes(uint32_t *sizes, size_t sizes_len, size_t n, uint32_t greatest);
+
+/* The media writes by themselves, for a part that is driven without the cache. Done, they count 0.
+ * Page: the 256 bytes of a page are replaced. SHAPE where either has another length. */
+uint32_t boxstore_write_page(uint8_t *page, size_t page_len, const uint8_t *bytes, size_t bytes_len);
+
+/* Size: the stored size of a file is replaced. SHAPE, NO FILE, then RANGE above 4,096. */
+uint32_t boxstore_write_size(const uint8_t *media, size_t media_len, uint32_t *sizes, size_t sizes_len,
+                             size_t file, size_t n);
+
+/* Trim: the bytes of a file from n on become 0, and its stored size n. SHAPE, NO FILE, then RANGE where n is above 4,096 or
+ * above the stored size. */
+uint32_t boxstore_trim(uint8_t *media, size_t media_len, uint32_t *sizes, size_t sizes_len, size_t file, size_t n);
+
+#ifdef __cplusplus
+}
+#endif
+
+#endif
