@@ -10,11 +10,13 @@ pub use device::FileSizes;
 pub use device::Outcome;
 pub use device::SLOTS;
 pub use device::Slot;
+pub use device::Span;
 pub use media::FILES;
 pub use media::PAGE_BYTES;
 pub use media::PAGES_PER_FILE;
 pub use reading::look;
 pub use reading::look_count;
+pub use reading::look_span;
 pub use reading::read;
 pub use writeback::format;
 pub use writeback::mount;
@@ -328,7 +330,7 @@ pub fn truncate(
 }
 
 // The answer of the truncate rule on the sizes of one file.
-fn sizes_answer(s: FileSizes, n: usize, greatest: u32) -> Answer
+pub fn sizes_answer(s: FileSizes, n: usize, greatest: u32) -> Answer
     ensures { λ r. ⌜ coded r ≡ sizesAnswer greatest n s ⌝ }
 {
     let limit = greatest as usize;
@@ -342,7 +344,7 @@ fn sizes_answer(s: FileSizes, n: usize, greatest: u32) -> Answer
 }
 
 // The sizes of one file after the truncate rule: as they came where it refuses.
-fn sizes_after(s: FileSizes, n: usize, greatest: u32) -> FileSizes
+pub fn sizes_after(s: FileSizes, n: usize, greatest: u32) -> FileSizes
     ensures { λ r. ⌜ r ≡ sizesAfter greatest n s ⌝ }
 {
     let answer = sizes_answer(s, n, greatest);

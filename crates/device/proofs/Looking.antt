@@ -2,13 +2,13 @@
 use mathlib.Core.Path.{_≡_, sym, ap, _∙_, refl}
 use mathlib.Core.Logic.{_≢_}
 use mathlib.Core.List.{List, [], _∷_}
-use mathlib.Core.Bool.{true, false≢true}
-use Prim.Native.Nat.{ℕ, _+_, _/_, _%_, _≤_, _<_}
+use mathlib.Core.Bool.{true, false, false≢true}
+use Prim.Native.Nat.{ℕ, _+_, _-_, _/_, _%_, _≤_, _<_, max}
 use native.Mathlib.Nat.{le-trans}
 use native.Mathlib.Omega.{arith}
 use lib.ListN.{length, getD, length-take}
 use lib.Dec.{leb, eqb}
-use borrow.Author.Tests.{ne-eqb, lt-ltb, le-ltb}
+use borrow.Author.Tests.{ne-eqb, lt-ltb, le-ltb, leb-true}
 use borrow.Table.Steps.{cases}
 use Rattle.answer.specs.Coded.{Coded, refused, done, codedRefusal}
 use Rattle.answer.specs.Admission.{ifDone, Test, firstRefusal}
@@ -18,15 +18,16 @@ use Rattle.answer.specs.declared.Refusal.{Refusal}
 use Rattle.memory.specs.Bytes.{part}
 use Rattle.memory.proofs.Cases.{split-lt}
 use Rattle.memory.proofs.Bytes.{length-part, getD-part}
-use Rattle.media.specs.Geometry.{files, pageBytes, fileBytes, fileStart}
+use Rattle.media.specs.Geometry.{files, pageBytes, fileBytes, mediaBytes, fileStart}
 use Rattle.media.proofs.Geometry.{file-end}
 use Rattle.device.specs.Device.{Device, slotCount, framesBytes, frameStart, slotOf, logicalAt, floorAt}
 use Rattle.device.specs.Current.{currentAt}
 use Rattle.device.specs.Admission.{mediaShape, framesShape, sizesFit, stateTests, fileTests}
-use Rattle.device.specs.Looking.{toPageEnd, lookCount, lookedAt, look, placeOf, lookPlace}
+use Rattle.device.specs.declared.Span.{Span}
+use Rattle.device.specs.Looking.{toPageEnd, lookCount, lookedSpan, noSpan, lookSpan, spanBytes, lookedAt, look, placeOf, lookPlace}
 use Rattle.device.proofs.Admission.{Admitted, file-changeless, file-admitted}
 use Rattle.device.proofs.Current.{current-cached, current-media, current-zero}
-use Rattle.device.proofs.Sound.{Fit}
+use Rattle.device.proofs.Sound.{Fit, sound-sizes}
 
 look-changeless : (P f position : ℕ) (d : Device) → Changeless (fileTests P d f (leb position (fileBytes P)))
 unfolding mediaShape framesShape sizesFit stateTests
@@ -37,9 +38,9 @@ pub look-by : (P f position : ℕ) (d : Device) (Q : Coded → List ℕ → Type
     → ((k : ℕ) → 0 < k → k ≢ 9 → Q (refused k) [])
     → (Admitted P d f (leb position (fileBytes P)) → Q (done (toPageEnd position (logicalAt d f))) (lookedAt P f position d))
     → Q (lookCount P f position d) (look P f position d)
-unfolding lookCount look
+unfolding lookCount look lookSpan spanBytes lookedAt
 look-by P f position d Q fails finished =
-    first-by (λ a. Q a (ifDone a (lookedAt P f position d) [])) (fileTests P d f (leb position (fileBytes P))) _ (look-changeless P f position d)
+    first-by (λ a. Q a (spanBytes d (ifDone a (lookedSpan P f position d) noSpan))) (fileTests P d f (leb position (fileBytes P))) _ (look-changeless P f position d)
     (λ k lo hi. rw (ne-eqb k 0 (λ e. (omega arith))) (fails k lo hi))
     (λ e. finished (file-admitted P d f (leb position (fileBytes P)) e))
 
@@ -52,12 +53,12 @@ nearer position a b h = omega arith
 module _ (P : ℕ) (d : Device) (f position : ℕ) where
   from-frame : slotOf d f (position / pageBytes) < slotCount
       → lookedAt P f position d ≡ part (d .frames) (frameStart (slotOf d f (position / pageBytes)) + position % pageBytes) (toPageEnd position (logicalAt d f))
-  unfolding lookedAt
+  unfolding lookedAt lookedSpan spanBytes
   from-frame l = rw (lt-ltb _ _ l)
 
   from-media : slotCount ≤ slotOf d f (position / pageBytes)
       → lookedAt P f position d ≡ part (d .media .bytes) (fileStart P f + position) (toPageEnd position (floorAt d f))
-  unfolding lookedAt
+  unfolding lookedAt lookedSpan spanBytes
   from-media l = rw (le-ltb _ _ l)
 
   -- not more than its count
@@ -120,10 +121,6 @@ first-other [] a x e = absurd (false≢true (sym (refusal-number x) ∙ ap (λ (
 first-other (t ∷ ts) a x e = cases (t .holds) (λ h. rw h (first-other ts a x (rw h at e))) (λ h. rw h (rw h at e))
 
 module _ (P f position : ℕ) (d : Device) where
-  pub look-refused : (x : Refusal) → codedRefusal x ≡ firstRefusal (fileTests P d f (leb position (fileBytes P))) (done 0) → [] ≡ look P f position d
-  unfolding look lookCount
-  look-refused x e = sym (if-refused (lookCount P f position d) x (lookedAt P f position d) [] (first-other (fileTests P d f (leb position (fileBytes P))) (done (toPageEnd position (logicalAt d f))) x e))
-
   pub count-refused : (x : Refusal) → codedRefusal x ≡ firstRefusal (fileTests P d f (leb position (fileBytes P))) (done 0) → codedRefusal x ≡ lookCount P f position d
   unfolding lookCount
   count-refused x e = first-other (fileTests P d f (leb position (fileBytes P))) (done (toPageEnd position (logicalAt d f))) x e
@@ -133,34 +130,66 @@ module _ (P f position : ℕ) (d : Device) where
   count-done n h e = rw e (sym (first-all (fileTests P d f (leb position (fileBytes P))) (done (toPageEnd position (logicalAt d f))) h))
 
   module _ (h : passed (fileTests P d f (leb position (fileBytes P))) ≡ true) (k : ℕ) (e : k ≡ slotOf d f (position / pageBytes)) where
-    looked : look P f position d ≡ lookedAt P f position d
-    unfolding look lookCount
+    looked : lookSpan P f position d ≡ lookedSpan P f position d
+    unfolding lookSpan lookCount
     looked = rw (first-all (fileTests P d f (leb position (fileBytes P))) (done (toPageEnd position (logicalAt d f))) h)
 
-    pub look-cached : (n : ℕ) → k < slotCount → n ≡ toPageEnd position (logicalAt d f) → part (d .frames) (frameStart k + position % pageBytes) n ≡ look P f position d
-    unfolding lookedAt
-    look-cached n l en = let q : slotOf d f (position / pageBytes) < slotCount = omega arith in rw (en, e) (sym (looked ∙ rw (lt-ltb _ _ q)))
+    pub span-cached : (n : ℕ) → k < slotCount → n ≡ toPageEnd position (logicalAt d f)
+        → record { cached = true; from = frameStart k + position % pageBytes; count = n } ≡ lookSpan P f position d
+    unfolding lookedSpan
+    span-cached n l en = let q : slotOf d f (position / pageBytes) < slotCount = omega arith in rw (en, e) (sym (looked ∙ rw (lt-ltb _ _ q)))
 
-    pub look-media : (n : ℕ) → slotCount ≤ k → n ≡ toPageEnd position (floorAt d f) → part (d .media .bytes) (fileStart P f + position) n ≡ look P f position d
-    unfolding lookedAt
-    look-media n l en = let q : slotCount ≤ slotOf d f (position / pageBytes) = omega arith in rw en (sym (looked ∙ rw (le-ltb _ _ q)))
+    pub span-media : (n : ℕ) → slotCount ≤ k → n ≡ toPageEnd position (floorAt d f)
+        → record { cached = false; from = fileStart P f + position; count = n } ≡ lookSpan P f position d
+    unfolding lookedSpan
+    span-media n l en = let q : slotCount ≤ slotOf d f (position / pageBytes) = omega arith in rw en (sym (looked ∙ rw (le-ltb _ _ q)))
 
--- ---- where its part lies
+  pub span-refused : (x : Refusal) → codedRefusal x ≡ firstRefusal (fileTests P d f (leb position (fileBytes P))) (done 0) → noSpan ≡ lookSpan P f position d
+  unfolding lookSpan
+  span-refused x e = sym (if-refused (lookCount P f position d) x (lookedSpan P f position d) noSpan (count-refused x e))
 
-module _ (P f position : ℕ) (media frames : ℕ × ℕ) (d : Device) where
-  pub place-refused : (x : Refusal) → codedRefusal x ≡ firstRefusal (fileTests P d f (leb position (fileBytes P))) (done 0) → media ≡ lookPlace P f position media frames d
-  unfolding lookPlace lookCount
-  place-refused x e = sym (if-refused (lookCount P f position d) x _ media (count-refused P f position d x e))
+-- ---- where the part lies is in the media or in the page frames
 
-  module _ (h : passed (fileTests P d f (leb position (fileBytes P))) ≡ true) (k : ℕ) (e : k ≡ slotOf d f (position / pageBytes)) where
-    pub place-cached : k < slotCount → placeOf frames (frameStart k + position % pageBytes) ≡ lookPlace P f position media frames d
-    unfolding lookPlace
-    place-cached l =
-        let q : slotOf d f (position / pageBytes) < slotCount = omega arith in
-        rw (← (count-done P f position d _ h refl), lt-ltb _ _ q, e)
+pub record Within (P : ℕ) (d : Device) (s : Span) : Type 0 where
+  pub frames : s .cached ≡ true → s .from + s .count ≤ length (d .frames)
+  pub media : s .cached ≡ false → s .from + s .count ≤ length (d .media .bytes)
+  pub from-most : s .from ≤ max framesBytes (mediaBytes P)
+  pub count-most : s .count ≤ pageBytes
 
-    pub place-media : slotCount ≤ k → placeOf media (fileStart P f + position) ≡ lookPlace P f position media frames d
-    unfolding lookPlace
-    place-media l =
-        let q : slotCount ≤ slotOf d f (position / pageBytes) = omega arith in
-        rw (← (count-done P f position d _ h refl), le-ltb _ _ q)
+within-looked : (P f position : ℕ) (d : Device) → Admitted P d f (leb position (fileBytes P)) → Within P d (lookedSpan P f position d)
+unfolding lookedSpan
+within-looked P f position d ad =
+    let r : position ≤ fileBytes P = leb-true position (fileBytes P) (ad .in-range) in
+    let z = sound-sizes P (d .media .sizes) (d .cache) f (ad .sound) (ad .file) in
+    let e = file-end P f (ad .file) in
+    split-lt (slotOf d f (position / pageBytes)) slotCount
+    (λ l. rw (lt-ltb _ _ l) (record { frames = λ _. omega (arith, ad .frames); media = λ q. absurd (false≢true (sym q)); from-most = omega arith; count-most = omega arith }))
+    (λ l. rw (le-ltb _ _ l) (record { frames = λ q. absurd (false≢true q); media = λ _. omega (arith, ad .bytes); from-most = omega arith; count-most = omega arith }))
+
+pub look-within : (P f position : ℕ) (d : Device) → Within P d (lookSpan P f position d)
+unfolding lookSpan lookCount
+look-within P f position d =
+    first-by (λ a. Within P d (ifDone a (lookedSpan P f position d) noSpan)) (fileTests P d f (leb position (fileBytes P))) _ (look-changeless P f position d)
+    (λ k lo hi. rw (ne-eqb k 0 (λ e. (omega arith))) (record { frames = λ _. omega arith; media = λ _. omega arith; from-most = omega arith; count-most = omega arith }))
+    (λ e. within-looked P f position d (file-admitted P d f (leb position (fileBytes P)) e))
+
+-- ---- a span that a look gave: where it lies, and its bytes
+
+module _ (P f position : ℕ) (d : Device) (s : Span) (e : s ≡ lookSpan P f position d) where
+  pub span-within : Within P d s
+  span-within = rw e (look-within P f position d)
+
+  -- as a part from one index to another
+  long : s .from + s .count - s .from ≡ s .count
+  long = omega arith
+
+  module _ (media frames : ℕ × ℕ) where
+    pub span-in-frames : s .cached ≡ true
+        → (part (d .frames) (s .from) (s .from + s .count - s .from) ≡ look P f position d) × (placeOf frames (s .from) ≡ lookPlace P f position media frames d)
+    unfolding look spanBytes lookPlace
+    span-in-frames c = rw (long, ← e, c) (refl, refl)
+
+    pub span-in-media : s .cached ≡ false
+        → (part (d .media .bytes) (s .from) (s .from + s .count - s .from) ≡ look P f position d) × (placeOf media (s .from) ≡ lookPlace P f position media frames d)
+    unfolding look spanBytes lookPlace
+    span-in-media c = rw (long, ← e, c) (refl, refl)

@@ -32,6 +32,13 @@ pub struct FileSizes {
     pub stored: u32,
 }
 
+// Where a part lies: in the page frames or in the media, from an index on, so many bytes.
+pub struct Span {
+    pub cached: bool,
+    pub from: usize,
+    pub count: usize,
+}
+
 // What a call returns: its answer, beside the cache state that it leaves.
 pub struct Outcome {
     pub answer: Answer,

@@ -2,6 +2,7 @@
 use answer::Answer;
 use device::CacheState;
 use device::SLOTS;
+use device::Span;
 use media::PAGE_BYTES;
 use media::PAGES_PER_FILE;
 ghost use mathlib.Core.Path.{_≡_};
@@ -19,7 +20,7 @@ ghost use Rattle.device.specs.Device.{deviceOf, framesBytes};
 ghost use Rattle.device.specs.Current.{currentBytes};
 ghost use Rattle.device.specs.Admission.{give, fileTests};
 ghost use Rattle.device.specs.Reading.{read};
-ghost use Rattle.device.specs.Looking.{toPageEnd, lookCount, look, lookPlace};
+ghost use Rattle.device.specs.Looking.{toPageEnd, lookCount, lookSpan, look, lookPlace};
 
 // The refusals of a call at a position of a file, in their order.
 fn admit_at(
@@ -138,9 +139,47 @@ fn to_page_end(position: usize, limit: usize) -> usize
     )
 }
 
-// Look: a part of the page frames, or of the media where the page is not cached, and never a copy. It goes from the position to
-// the end of its page, and no further than the logical size, or than the floor where the page is not cached. It is empty on a
-// refusal, at or past the logical size, and in zeros that no buffer has: `look_count` tells which.
+// Where a look's part lies: in the page frames, or in the media where the page is not cached. It goes from the position to the end
+// of its page, and no further than the logical size, or than the floor where the page is not cached. It is empty on a refusal, at
+// or past the logical size, and in zeros that no buffer has: `look_count` tells which.
+pub fn look_span(
+    media: &[u8],
+    sizes: &[u32],
+    frames: &[u8],
+    cache: CacheState,
+    file: usize,
+    position: usize,
+) -> Span
+    ensures { λ r. ⌜ r ≡ lookSpan pagesPerFile file position (deviceOf (mediaOf (now (media .entry)) (now (sizes .entry))) (now (frames .entry)) cache) ⌝ }
+{
+    let admission = admit_at(media, sizes, frames, cache, file, position);
+    match admission {
+        Answer::Refused(_) => Span {
+            cached: false,
+            from: 0,
+            count: 0,
+        },
+        Answer::Done(_) => {
+            let k = cache_state::slot_of(cache, file, position / PAGE_BYTES);
+            if k < SLOTS {
+                let logicals = cache.logical;
+                return Span {
+                    cached: true,
+                    from: PAGE_BYTES * k + position % PAGE_BYTES,
+                    count: to_page_end(position, logicals[file] as usize),
+                };
+            }
+            let floors = cache.floor;
+            Span {
+                cached: false,
+                from: file * (PAGE_BYTES * PAGES_PER_FILE) + position,
+                count: to_page_end(position, floors[file] as usize),
+            }
+        }
+    }
+}
+
+// Look: the part itself, and never a copy.
 pub fn look<'a>(
     media: &'a [u8],
     sizes: &[u32],
@@ -152,23 +191,13 @@ pub fn look<'a>(
     ensures { λ r. ⌜ (now r ≡ look pagesPerFile file position (deviceOf (mediaOf (now (media .entry)) (now (sizes .entry))) (now (frames .entry)) cache))
         × (ptr r ≡ lookPlace pagesPerFile file position (ptr (media .entry)) (ptr (frames .entry)) (deviceOf (mediaOf (now (media .entry)) (now (sizes .entry))) (now (frames .entry)) cache)) ⌝ }
 {
-    let admission = admit_at(media, sizes, frames, cache, file, position);
-    match admission {
-        Answer::Refused(_) => &media[..0],
-        Answer::Done(_) => {
-            let k = cache_state::slot_of(cache, file, position / PAGE_BYTES);
-            if k < SLOTS {
-                let logicals = cache.logical;
-                let from = PAGE_BYTES * k + position % PAGE_BYTES;
-                let end = from + to_page_end(position, logicals[file] as usize);
-                return &frames[from..end];
-            }
-            let floors = cache.floor;
-            let from = file * (PAGE_BYTES * PAGES_PER_FILE) + position;
-            let end = from + to_page_end(position, floors[file] as usize);
-            &media[from..end]
-        }
+    let span = look_span(media, sizes, frames, cache, file, position);
+    let from = span.from;
+    let end = from + span.count;
+    if span.cached {
+        return &frames[from..end];
     }
+    &media[from..end]
 }
 
 // The answer of a look: its refusal, or as count the bytes from the position to the end of its page or to the logical size, the

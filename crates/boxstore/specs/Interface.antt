@@ -1,0 +1,96 @@
+-- The calls as a caller makes them that links the library: on numbers and slices, with the cache state as bytes, answered by a word.
+use Prim.Native.Nat.{ℕ, _+_, _*_}
+use mathlib.Core.Bool.{cond, _||_}
+use mathlib.Core.List.{List, [], _∷_}
+use lib.Dec.{eqb}
+use lib.ListN.{length, getD}
+use Rattle.answer.specs.Coded.{Coded, done, SHAPE}
+use Rattle.answer.specs.Admission.{Test, test, firstRefusal}
+use Rattle.media.specs.Write.{Media}
+use Rattle.device.specs.declared.CacheState.{CacheState}
+use Rattle.device.specs.declared.FileSizes.{FileSizes}
+use Rattle.device.specs.declared.Span.{Span}
+use Rattle.device.specs.Device.{Device, deviceOf, downState}
+use Rattle.device.specs.Admission.{Result, give, admit}
+use Rattle.device.specs.Sizes.{sizesAnswer, sizesAfter}
+use Rattle.device.specs.Reading.{read}
+use Rattle.device.specs.Looking.{lookCount, lookSpan}
+use Rattle.state_bytes.specs.Encoding.{stateBytes, encode, decode}
+
+-- ---- answers
+
+-- an answer in one word: below 65,536 it is done, and the word is its count
+abbrev pub wordOf : Coded → ℕ
+wordOf a = 65536 * a .number + a .count
+
+-- what a call gives: its word, and what it leaves in all that it borrowed
+pub record Reply (A : Type 0) : Type 0 where
+  pub word : ℕ
+  pub left : A
+
+abbrev pub reply : {A : Type 0} → ℕ → A → Reply A
+reply w x = record { word = w; left = x }
+
+abbrev pub inWord : {A : Type 0} → Result A → Reply A
+inWord r = reply (wordOf (r .answer)) (r .left)
+
+-- ---- the state as bytes
+
+-- the device as it is lent
+pub record Lent : Type 0 where
+  pub media : Media
+  pub frames : List ℕ
+  pub state : List ℕ
+
+abbrev pub lent : Media → List ℕ → List ℕ → Lent
+lent media frames state = record { media = media; frames = frames; state = state }
+
+abbrev pub deviceIn : Lent → Device
+deviceIn l = deviceOf (l .media) (l .frames) (decode (l .state))
+
+-- SHAPE, before all others
+unfoldable pub stateShape : List ℕ → List Test
+stateShape state = test (eqb (length state) stateBytes) SHAPE ∷ []
+
+-- the bytes after a call: the state that it leaves where it is done or cut; as they came on any other refusal
+unfoldable pub stateAfter : Coded → CacheState → List ℕ → List ℕ
+stateAfter a s before = cond (eqb (a .number) 0 || eqb (a .number) 9) (encode s) before
+
+-- ---- the calls
+
+-- write, truncate, sync, mount and format
+unfoldable pub onBytes : (Device → Result Device) → Lent → Result Lent
+onBytes call l =
+    let r : Result Device = call (deviceIn l) in
+    admit (stateShape (l .state)) l
+    (give (r .answer) (lent (r .left .media) (r .left .frames) (stateAfter (r .answer) (r .left .cache) (l .state))))
+
+unfoldable pub readBytes : ℕ → ℕ → ℕ → List ℕ → Lent → Result (List ℕ)
+readBytes P f position buffer l = admit (stateShape (l .state)) buffer (read P f position buffer (deviceIn l))
+
+unfoldable pub lookCountBytes : ℕ → ℕ → ℕ → Lent → Coded
+lookCountBytes P f position l = firstRefusal (stateShape (l .state)) (lookCount P f position (deviceIn l))
+
+-- where a look's part lies, in one word: offset, source (1 for the page frames, 0 for the media) and count; 0 on a refusal
+abbrev pub spanWord : Span → ℕ
+spanWord s = 4294967296 * s .from + 65536 * cond (s .cached) 1 0 + s .count
+
+unfoldable pub lookWord : ℕ → ℕ → ℕ → Lent → ℕ
+lookWord P f position l = cond (eqb (length (l .state)) stateBytes) (spanWord (lookSpan P f position (deviceIn l))) 0
+
+-- the down state
+unfoldable pub downBytes : List ℕ → Result (List ℕ)
+downBytes state = admit (stateShape state) state (give (done 0) (encode downState))
+
+-- ---- the sizes of one file, as three numbers
+
+abbrev pub sizesRecord : List ℕ → FileSizes
+sizesRecord sizes = record { logical = getD sizes 0 0; floor = getD sizes 1 0; stored = getD sizes 2 0 }
+
+abbrev pub sizesList : FileSizes → List ℕ
+sizesList s = s .logical ∷ s .floor ∷ s .stored ∷ []
+
+unfoldable pub truncateSizes : ℕ → ℕ → List ℕ → Result (List ℕ)
+truncateSizes greatest n sizes =
+    admit (test (eqb (length sizes) 3) SHAPE ∷ []) sizes
+    (give (sizesAnswer greatest n (sizesRecord sizes)) (sizesList (sizesAfter greatest n (sizesRecord sizes))))

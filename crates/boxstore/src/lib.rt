@@ -1,0 +1,326 @@
+// The store for callers that are not written in Rattle: each call on numbers and slices, with the cache state as bytes.
+//
+// interop/boxstore.h is this interface for C. specs/Interface.antt says what each call gives. A slice goes as a pointer and a number
+// of elements; the pointer is not null, and what may be written overlaps nothing else that is lent.
+//
+// An answer is one word, 65,536 × number + count. Number 0 is done, so a done call answers its count.
+use answer::Answer;
+use cache::FileSizes;
+use cache::Outcome;
+use cache::Span;
+ghost use mathlib.Core.Path.{_≡_};
+ghost use mathlib.Core.Bool.{_||_};
+ghost use mathlib.Core.List.{List};
+ghost use Prim.Native.Nat.{ℕ, _<_};
+ghost use lib.Dec.{eqb};
+ghost use lib.ListN.{length};
+ghost use Rattle.answer.specs.Coded.{coded};
+ghost use Rattle.media.specs.Geometry.{pagesPerFile};
+ghost use Rattle.media.specs.Write.{mediaOf};
+ghost use Rattle.media.specs.Direct.{pageAnswer, pageAfter, sizeAnswer, sizeAfter, trimAnswer, trimAfter};
+ghost use Rattle.device.specs.Writing.{write};
+ghost use Rattle.device.specs.Truncating.{truncate};
+ghost use Rattle.device.specs.Syncing.{sync};
+ghost use Rattle.device.specs.Mounting.{mount, format};
+ghost use Rattle.state_bytes.specs.Encoding.{stateBytes};
+ghost use Rattle.boxstore.specs.Interface.{wordOf, reply, inWord, lent, stateAfter, onBytes, readBytes, lookCountBytes, spanWord, lookWord, downBytes, truncateSizes};
+
+// SHAPE as a word.
+const SHAPE: u32 = 131072;
+
+// An answer as a word.
+fn answer_word(a: Answer) -> u32
+    requires { ⌜ (coded a) .count < 65536 ⌝ }
+    ensures { λ r. ⌜ r ≡ wordOf (coded a) ⌝ }
+{
+    let number = answer::number(a) as u32;
+    let count = answer::count(a) as u32;
+    65536 * number + count
+}
+
+// Whether a call with this answer leaves a state of its own: done or cut.
+fn leaves_state(a: Answer) -> bool
+    ensures { λ r. ⌜ r ≡ eqb ((coded a) .number) 0 || eqb ((coded a) .number) 9 ⌝ }
+{
+    let number = answer::number(a);
+    if number == 0 {
+        return true;
+    }
+    number == 9
+}
+
+// The word of an outcome. The bytes of the state become those of the state that the call left, where it is done or cut.
+fn finish(state: &mut [u8], outcome: Outcome) -> u32
+    requires { ⌜ (length (now state) ≡ stateBytes) × ((coded (outcome .answer)) .count < 65536) ⌝ }
+    ensures { λ r. ⌜ (r ≡ wordOf (coded (outcome .answer))) × (now (state .exit) ≡ stateAfter (coded (outcome .answer)) (outcome .cache) (now (state .entry))) ⌝ }
+{
+    let answer = outcome.answer;
+    let cache = outcome.cache;
+    if leaves_state(answer) {
+        state_bytes::encode(cache, state);
+        return answer_word(answer);
+    }
+    answer_word(answer)
+}
+
+// Down: the state becomes the down state, as at the start and after a loss of power.
+#[no_mangle]
+pub extern "C" fn boxstore_down(state: &mut [u8]) -> u32
+    ensures { λ r. ⌜ reply r (now (state .exit)) ≡ inWord (downBytes (now (state .entry))) ⌝ }
+{
+    if state.len() != state_bytes::STATE_BYTES {
+        return SHAPE;
+    }
+    state_bytes::encode(cache::down_state(), state);
+    0
+}
+
+// Format: empties all files. The device is down after it, done or cut.
+#[no_mangle]
+pub extern "C" fn boxstore_format(
+    media: &mut [u8],
+    sizes: &mut [u32],
+    state: &mut [u8],
+    budget: usize,
+) -> u32
+    ensures { λ r. ⌜ ((frames : List ℕ) → reply r (lent (mediaOf (now (media .exit)) (now (sizes .exit))) frames (now (state .exit)))
+        ≡ inWord (onBytes (format pagesPerFile budget) (lent (mediaOf (now (media .entry)) (now (sizes .entry))) frames (now (state .entry))))) ⌝ }
+{
+    if state.len() != state_bytes::STATE_BYTES {
+        return SHAPE;
+    }
+    let outcome = cache::format(media, sizes, state_bytes::decode(state), budget);
+    finish(state, outcome)
+}
+
+// Mount: brings the device up, with no page cached and the stored sizes.
+#[no_mangle]
+pub extern "C" fn boxstore_mount(
+    media: &mut [u8],
+    sizes: &mut [u32],
+    state: &mut [u8],
+    budget: usize,
+) -> u32
+    ensures { λ r. ⌜ ((frames : List ℕ) → reply r (lent (mediaOf (now (media .exit)) (now (sizes .exit))) frames (now (state .exit)))
+        ≡ inWord (onBytes (mount pagesPerFile budget) (lent (mediaOf (now (media .entry)) (now (sizes .entry))) frames (now (state .entry))))) ⌝ }
+{
+    if state.len() != state_bytes::STATE_BYTES {
+        return SHAPE;
+    }
+    let outcome = cache::mount(media, sizes, state_bytes::decode(state), budget);
+    finish(state, outcome)
+}
+
+// Read: copies as many bytes as the buffer takes, up to the logical size, and counts them.
+#[no_mangle]
+pub extern "C" fn boxstore_read(
+    media: &[u8],
+    sizes: &[u32],
+    frames: &[u8],
+    state: &[u8],
+    file: usize,
+    position: usize,
+    buffer: &mut [u8],
+) -> u32
+    ensures { λ r. ⌜ reply r (now (buffer .exit))
+        ≡ inWord (readBytes pagesPerFile file position (now (buffer .entry)) (lent (mediaOf (now (media .entry)) (now (sizes .entry))) (now (frames .entry)) (now (state .entry)))) ⌝ }
+{
+    if state.len() != state_bytes::STATE_BYTES {
+        return SHAPE;
+    }
+    answer_word(cache::read(
+        media,
+        sizes,
+        frames,
+        state_bytes::decode(state),
+        file,
+        position,
+        buffer,
+    ))
+}
+
+// Write: puts the bytes into cached pages, ascending, and counts them.
+#[no_mangle]
+pub extern "C" fn boxstore_write(
+    media: &[u8],
+    sizes: &[u32],
+    frames: &mut [u8],
+    state: &mut [u8],
+    file: usize,
+    position: usize,
+    bytes: &[u8],
+) -> u32
+    ensures { λ r. ⌜ reply r (lent (mediaOf (now (media .entry)) (now (sizes .entry))) (now (frames .exit)) (now (state .exit)))
+        ≡ inWord (onBytes (write pagesPerFile file position (now (bytes .entry))) (lent (mediaOf (now (media .entry)) (now (sizes .entry))) (now (frames .entry)) (now (state .entry)))) ⌝ }
+{
+    if state.len() != state_bytes::STATE_BYTES {
+        return SHAPE;
+    }
+    let outcome = cache::write(
+        media,
+        sizes,
+        frames,
+        state_bytes::decode(state),
+        file,
+        position,
+        bytes,
+    );
+    finish(state, outcome)
+}
+
+// Truncate: the file has n bytes after it; the count is 0.
+#[no_mangle]
+pub extern "C" fn boxstore_truncate(
+    media: &[u8],
+    sizes: &[u32],
+    frames: &mut [u8],
+    state: &mut [u8],
+    file: usize,
+    n: usize,
+) -> u32
+    ensures { λ r. ⌜ reply r (lent (mediaOf (now (media .entry)) (now (sizes .entry))) (now (frames .exit)) (now (state .exit)))
+        ≡ inWord (onBytes (truncate pagesPerFile file n) (lent (mediaOf (now (media .entry)) (now (sizes .entry))) (now (frames .entry)) (now (state .entry)))) ⌝ }
+{
+    if state.len() != state_bytes::STATE_BYTES {
+        return SHAPE;
+    }
+    let outcome = cache::truncate(media, sizes, frames, state_bytes::decode(state), file, n);
+    finish(state, outcome)
+}
+
+// Sync: stores a file, and counts the media writes.
+#[no_mangle]
+pub extern "C" fn boxstore_sync(
+    media: &mut [u8],
+    sizes: &mut [u32],
+    frames: &[u8],
+    state: &mut [u8],
+    file: usize,
+    budget: usize,
+) -> u32
+    ensures { λ r. ⌜ reply r (lent (mediaOf (now (media .exit)) (now (sizes .exit))) (now (frames .entry)) (now (state .exit)))
+        ≡ inWord (onBytes (sync pagesPerFile file budget) (lent (mediaOf (now (media .entry)) (now (sizes .entry))) (now (frames .entry)) (now (state .entry)))) ⌝ }
+{
+    if state.len() != state_bytes::STATE_BYTES {
+        return SHAPE;
+    }
+    let outcome = cache::sync(
+        media,
+        sizes,
+        frames,
+        state_bytes::decode(state),
+        file,
+        budget,
+    );
+    finish(state, outcome)
+}
+
+// The count of a look: from the position to the end of its page or to the logical size, the nearer.
+#[no_mangle]
+pub extern "C" fn boxstore_look_count(
+    media: &[u8],
+    sizes: &[u32],
+    frames: &[u8],
+    state: &[u8],
+    file: usize,
+    position: usize,
+) -> u32
+    ensures { λ r. ⌜ r ≡ wordOf (lookCountBytes pagesPerFile file position (lent (mediaOf (now (media .entry)) (now (sizes .entry))) (now (frames .entry)) (now (state .entry)))) ⌝ }
+{
+    if state.len() != state_bytes::STATE_BYTES {
+        return SHAPE;
+    }
+    answer_word(cache::look_count(
+        media,
+        sizes,
+        frames,
+        state_bytes::decode(state),
+        file,
+        position,
+    ))
+}
+
+// Where a part lies, as a word.
+fn span_word(s: Span) -> u64
+    requires { ⌜ (s .from < 65536) × (s .count < 65536) ⌝ }
+    ensures { λ r. ⌜ r ≡ spanWord s ⌝ }
+{
+    let from = s.from as u64;
+    let count = s.count as u64;
+    if s.cached {
+        return 4294967296 * from + 65536 + count;
+    }
+    4294967296 * from + count
+}
+
+// Look: where the bytes from the position on lie, to the end of its page at most: 2³² × offset + 65,536 × source + count.
+#[no_mangle]
+pub extern "C" fn boxstore_look(
+    media: &[u8],
+    sizes: &[u32],
+    frames: &[u8],
+    state: &[u8],
+    file: usize,
+    position: usize,
+) -> u64
+    ensures { λ r. ⌜ r ≡ lookWord pagesPerFile file position (lent (mediaOf (now (media .entry)) (now (sizes .entry))) (now (frames .entry)) (now (state .entry))) ⌝ }
+{
+    if state.len() != state_bytes::STATE_BYTES {
+        return 0;
+    }
+    span_word(cache::look_span(
+        media,
+        sizes,
+        frames,
+        state_bytes::decode(state),
+        file,
+        position,
+    ))
+}
+
+// The truncate rule on the sizes of one file: logical size, floor and stored size.
+#[no_mangle]
+pub extern "C" fn boxstore_truncate_sizes(sizes: &mut [u32], n: usize, greatest: u32) -> u32
+    ensures { λ r. ⌜ reply r (now (sizes .exit)) ≡ inWord (truncateSizes greatest n (now (sizes .entry))) ⌝ }
+{
+    if sizes.len() != 3 {
+        return SHAPE;
+    }
+    let came = FileSizes {
+        logical: sizes[0],
+        floor: sizes[1],
+        stored: sizes[2],
+    };
+    let after = cache::sizes_after(came, n, greatest);
+    sizes[0] = after.logical;
+    sizes[1] = after.floor;
+    sizes[2] = after.stored;
+    answer_word(cache::sizes_answer(came, n, greatest))
+}
+
+// PAGE by itself.
+#[no_mangle]
+pub extern "C" fn boxstore_write_page(page: &mut [u8], bytes: &[u8]) -> u32
+    ensures { λ r. ⌜ (r ≡ wordOf (pageAnswer (now (page .entry)) (now (bytes .entry))))
+        × (now (page .exit) ≡ pageAfter (now (page .entry)) (now (bytes .entry))) ⌝ }
+{
+    answer_word(media::write_page(page, bytes))
+}
+
+// SIZE by itself.
+#[no_mangle]
+pub extern "C" fn boxstore_write_size(media: &[u8], sizes: &mut [u32], file: usize, n: usize) -> u32
+    ensures { λ r. ⌜ (r ≡ wordOf (sizeAnswer pagesPerFile (mediaOf (now (media .entry)) (now (sizes .entry))) file n))
+        × (mediaOf (now (media .entry)) (now (sizes .exit)) ≡ sizeAfter pagesPerFile (mediaOf (now (media .entry)) (now (sizes .entry))) file n) ⌝ }
+{
+    answer_word(media::write_size(media, sizes, file, n))
+}
+
+// TRIM by itself.
+#[no_mangle]
+pub extern "C" fn boxstore_trim(media: &mut [u8], sizes: &mut [u32], file: usize, n: usize) -> u32
+    ensures { λ r. ⌜ (r ≡ wordOf (trimAnswer pagesPerFile (mediaOf (now (media .entry)) (now (sizes .entry))) file n))
+        × (mediaOf (now (media .exit)) (now (sizes .exit)) ≡ trimAfter pagesPerFile (mediaOf (now (media .entry)) (now (sizes .entry))) file n) ⌝ }
+{
+    answer_word(media::trim(media, sizes, file, n))
+}

@@ -1,0 +1,94 @@
+-- The cache state as bytes: its layout, written and read.
+--
+--   0              the up mark
+--   1 + 3 k        slot k: used (1) or free (0), its file, its page
+--   73 + 4 f       the logical size of file f, low byte first
+--   105 + 4 f      the floor of file f, alike
+use Prim.Native.Nat.{ℕ, zero, suc, _+_, _*_, _/_, _%_}
+use mathlib.Core.Bool.{Bool, cond}
+use mathlib.Core.List.{List, [], _∷_, _++_}
+use lib.Dec.{eqb, leb}
+use lib.ListN.{length, getD}
+use Rattle.memory.specs.Bytes.{zeros}
+use Rattle.scan.specs.Scan.{everyBelow}
+use Rattle.media.specs.Geometry.{files}
+use Rattle.device.specs.declared.Slot.{Slot}
+use Rattle.device.specs.declared.CacheState.{CacheState}
+use Rattle.device.specs.Device.{slotCount, noSlots}
+
+-- the number of bytes, and where the logical sizes and the floors begin
+abbrev pub stateBytes : ℕ
+stateBytes = 137
+
+abbrev pub slotsAt : ℕ
+slotsAt = 1
+
+abbrev pub logicalAt : ℕ
+logicalAt = 73
+
+abbrev pub floorAt : ℕ
+floorAt = 105
+
+-- ---- written
+
+abbrev pub slotBytes : Slot → List ℕ
+slotBytes s = cond (s .used) 1 0 ∷ s .file ∷ s .page ∷ []
+
+-- a 32-bit number in four bytes, low byte first
+abbrev pub numberBytes : ℕ → List ℕ
+numberBytes n = n % 256 ∷ n / 256 % 256 ∷ n / 65536 % 256 ∷ n / 16777216 ∷ []
+
+-- the bytes of each element, one after the other
+abbrev pub joined : {A : Type 0} → (A → List ℕ) → List A → List ℕ
+joined g [] = []
+joined g (x ∷ xs) = g x ++ joined g xs
+
+unfoldable pub encode : CacheState → List ℕ
+encode s = s .mounted ∷ (joined slotBytes (s .slots) ++ (joined numberBytes (s .logical) ++ joined numberBytes (s .floor)))
+
+-- ---- read
+
+abbrev pub slotIn : List ℕ → ℕ → Slot
+slotIn bytes a = record { used = eqb (getD bytes a 0) 1; file = getD bytes (a + 1) 0; page = getD bytes (a + 2) 0 }
+
+abbrev pub numberIn : List ℕ → ℕ → ℕ
+numberIn bytes a = getD bytes a 0 + 256 * getD bytes (a + 1) 0 + 65536 * getD bytes (a + 2) 0 + 16777216 * getD bytes (a + 3) 0
+
+-- what g gives for each number below n, ascending
+abbrev pub each : {A : Type 0} → ℕ → (ℕ → A) → List A
+each zero g = []
+each (suc n) g = each n g ++ (g n ∷ [])
+
+unfoldable pub slotsIn : List ℕ → List Slot
+slotsIn bytes = each slotCount (λ k. slotIn bytes (slotsAt + 3 * k))
+
+unfoldable pub sizesIn : List ℕ → ℕ → List ℕ
+sizesIn bytes a = each files (λ f. numberIn bytes (a + 4 * f))
+
+-- the first byte of each slot is 0 or 1: all else that bytes can say is some state
+unfoldable pub isState : List ℕ → Bool
+isState bytes = everyBelow slotCount (λ k. leb (getD bytes (slotsAt + 3 * k) 0) 1)
+
+-- an up mark that no sound state has
+abbrev pub noMark : ℕ
+noMark = 2
+
+-- what bytes of another length say
+abbrev pub noState : CacheState
+noState = record { mounted = noMark; slots = noSlots; logical = zeros files; floor = zeros files }
+
+-- bytes that are no state say one that is not sound
+unfoldable pub decode : List ℕ → CacheState
+decode bytes =
+    cond (eqb (length bytes) stateBytes)
+    (record {
+      mounted = cond (isState bytes) (getD bytes 0 0) noMark;
+      slots = slotsIn bytes;
+      logical = sizesIn bytes logicalAt;
+      floor = sizesIn bytes floorAt;
+    })
+    noState
+
+-- a buffer after the state was written to it; one of another length stays as it is
+unfoldable pub encoded : CacheState → List ℕ → List ℕ
+encoded s before = cond (eqb (length before) stateBytes) (encode s) before

@@ -1,0 +1,202 @@
+// The cache state as bytes in a borrowed buffer, for callers that cannot hold a `CacheState`.
+//
+// specs/Encoding.antt has the layout. `encode` and `decode` are inverse on every state; bytes that are no state decode to one that
+// is not sound.
+use device::CacheState;
+use device::Slot;
+ghost use mathlib.Core.Path.{_≡_};
+ghost use mathlib.Core.Bool.{cond};
+ghost use Prim.Native.Nat.{_+_, _*_, _≤_, _<_};
+ghost use lib.ListN.{length, getD};
+ghost use Rattle.memory.specs.Bytes.{overwrite};
+ghost use Rattle.media.specs.Geometry.{files};
+ghost use Rattle.device.specs.Device.{noSlots};
+ghost use Rattle.state_bytes.specs.Encoding.{stateBytes, slotsAt, slotBytes, numberBytes, joined, encoded, slotIn, numberIn, slotsIn, sizesIn, isState, noMark, decode};
+
+// The length of the buffer.
+pub const STATE_BYTES: usize = 137;
+
+const SLOTS_AT: usize = 1;
+
+const LOGICAL_AT: usize = 73;
+
+const FLOOR_AT: usize = 105;
+
+// The up mark of bytes that are no state.
+const NO_MARK: u8 = 2;
+
+// 1 for true, 0 for false.
+fn flag(b: bool) -> u8
+    ensures { λ r. ⌜ r ≡ cond b 1 0 ⌝ }
+{
+    if b { 1 } else { 0 }
+}
+
+fn put_slot(state: &mut [u8], at: usize, s: Slot)
+    requires { ⌜ (length (now state) ≡ stateBytes) × (at + 3 ≤ stateBytes) ⌝ }
+    ensures { λ r. ⌜ now (state .exit) ≡ overwrite (now (state .entry)) at (slotBytes s) ⌝ }
+{
+    state[at] = flag(s.used);
+    state[at + 1] = s.file;
+    state[at + 2] = s.page;
+}
+
+fn put_slots(state: &mut [u8], slots: [Slot; device::SLOTS])
+    requires { ⌜ length (now state) ≡ stateBytes ⌝ }
+    ensures { λ r. ⌜ now (state .exit) ≡ overwrite (now (state .entry)) slotsAt (joined slotBytes slots) ⌝ }
+{
+    let mut k = 0;
+    while k < device::SLOTS {
+        put_slot(state, SLOTS_AT + 3 * k, slots[k]);
+        k += 1;
+    }
+}
+
+// A number in four bytes, low byte first.
+fn put_number(state: &mut [u8], at: usize, n: u32)
+    requires { ⌜ (length (now state) ≡ stateBytes) × (at + 4 ≤ stateBytes) ⌝ }
+    ensures { λ r. ⌜ now (state .exit) ≡ overwrite (now (state .entry)) at (numberBytes n) ⌝ }
+{
+    state[at] = (n % 256) as u8;
+    state[at + 1] = (n / 256 % 256) as u8;
+    state[at + 2] = (n / 65536 % 256) as u8;
+    state[at + 3] = (n / 16777216) as u8;
+}
+
+fn put_sizes(state: &mut [u8], at: usize, sizes: [u32; media::FILES])
+    requires { ⌜ (length (now state) ≡ stateBytes) × (at + 4 * files ≤ stateBytes) ⌝ }
+    ensures { λ r. ⌜ now (state .exit) ≡ overwrite (now (state .entry)) at (joined numberBytes sizes) ⌝ }
+{
+    let mut f = 0;
+    while f < media::FILES {
+        put_number(state, at + 4 * f, sizes[f]);
+        f += 1;
+    }
+}
+
+// The buffer becomes the bytes of the state. One of another length stays as it is.
+pub fn encode(cache: CacheState, state: &mut [u8])
+    ensures { λ r. ⌜ now (state .exit) ≡ encoded cache (now (state .entry)) ⌝ }
+{
+    if state.len() == STATE_BYTES {
+        let mounted = cache.mounted;
+        let slots = cache.slots;
+        let logical = cache.logical;
+        let floor = cache.floor;
+        state[0] = mounted;
+        put_slots(state, slots);
+        put_sizes(state, LOGICAL_AT, logical);
+        put_sizes(state, FLOOR_AT, floor);
+    }
+}
+
+fn slot_in(state: &[u8], at: usize) -> Slot
+    requires { ⌜ at + 3 ≤ length (now state) ⌝ }
+    ensures { λ r. ⌜ r ≡ slotIn (now (state .entry)) at ⌝ }
+{
+    Slot {
+        used: state[at] == 1,
+        file: state[at + 1],
+        page: state[at + 2],
+    }
+}
+
+fn no_slots() -> [Slot; device::SLOTS]
+    ensures { λ r. ⌜ r ≡ noSlots ⌝ }
+{
+    [Slot {
+        used: false,
+        file: 0,
+        page: 0,
+    }; device::SLOTS]
+}
+
+fn slots_in(state: &[u8]) -> [Slot; device::SLOTS]
+    requires { ⌜ length (now state) ≡ stateBytes ⌝ }
+    ensures { λ r. ⌜ r ≡ slotsIn (now (state .entry)) ⌝ }
+{
+    let mut slots = no_slots();
+    let mut k = 0;
+    while k < device::SLOTS {
+        slots[k] = slot_in(state, SLOTS_AT + 3 * k);
+        k += 1;
+    }
+    slots
+}
+
+fn byte_in(state: &[u8], at: usize) -> u32
+    requires { ⌜ at < length (now state) ⌝ }
+    ensures { λ r. ⌜ (r ≡ getD (now (state .entry)) at 0) × (r < 256) ⌝ }
+{
+    state[at] as u32
+}
+
+// The number in four bytes, low byte first.
+fn number_in(state: &[u8], at: usize) -> u32
+    requires { ⌜ at + 4 ≤ length (now state) ⌝ }
+    ensures { λ r. ⌜ r ≡ numberIn (now (state .entry)) at ⌝ }
+{
+    let b0 = byte_in(state, at);
+    let b1 = byte_in(state, at + 1);
+    let b2 = byte_in(state, at + 2);
+    let b3 = byte_in(state, at + 3);
+    b0 + 256 * b1 + 65536 * b2 + 16777216 * b3
+}
+
+fn sizes_in(state: &[u8], at: usize) -> [u32; media::FILES]
+    requires { ⌜ (length (now state) ≡ stateBytes) × (at + 4 * files ≤ stateBytes) ⌝ }
+    ensures { λ r. ⌜ r ≡ sizesIn (now (state .entry)) at ⌝ }
+{
+    let mut sizes = [0u32; media::FILES];
+    let mut f = 0;
+    while f < media::FILES {
+        sizes[f] = number_in(state, at + 4 * f);
+        f += 1;
+    }
+    sizes
+}
+
+// Whether the first byte of each slot is 0 or 1.
+fn is_state(state: &[u8]) -> bool
+    requires { ⌜ length (now state) ≡ stateBytes ⌝ }
+    ensures { λ r. ⌜ r ≡ isState (now (state .entry)) ⌝ }
+{
+    let mut k = 0;
+    while k < device::SLOTS {
+        if 1 < state[SLOTS_AT + 3 * k] {
+            return false;
+        }
+        k += 1;
+    }
+    true
+}
+
+fn mark_in(state: &[u8]) -> u8
+    requires { ⌜ length (now state) ≡ stateBytes ⌝ }
+    ensures { λ r. ⌜ r ≡ cond (isState (now (state .entry))) (getD (now (state .entry)) 0 0) noMark ⌝ }
+{
+    if is_state(state) {
+        return state[0];
+    }
+    NO_MARK
+}
+
+// The state that the bytes say; bytes that are no state, or of another length, give one that is not sound.
+pub fn decode(state: &[u8]) -> CacheState
+    ensures { λ r. ⌜ r ≡ decode (now (state .entry)) ⌝ }
+{
+    if state.len() == STATE_BYTES {
+        return CacheState {
+            mounted: mark_in(state),
+            slots: slots_in(state),
+            logical: sizes_in(state, LOGICAL_AT),
+            floor: sizes_in(state, FLOOR_AT),
+        };
+    }
+    CacheState {
+        mounted: NO_MARK,
+        slots: no_slots(),
+        logical: [0; media::FILES],
+        floor: [0; media::FILES],
+    }
+}
