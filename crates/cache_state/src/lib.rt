@@ -19,7 +19,7 @@ ghost use Rattle.device.specs.Device.{deviceOf, slotCount, freeSlot, holds, isF
 ghost use Rattle.device.specs.Sizes.{inOrder};
 ghost use Rattle.device.specs.Sound.{inRange, holdsAlone, sizesIn, isDown, isSound};
 ghost use Rattle.device.specs.Truncating.{pagesFrom};
-ghost use Rattle.cache_state.specs.Tables.{noneSeen};
+ghost use Rattle.cache_state.specs.Tables.{noneSeen, noneCached, fileSlots};
 ghost use Rattle.device.specs.Admission.{mediaShape, mountedTests, stateTests, mountTests, deviceTests, fileTests};
 
 // Whether a slot holds page `page` of file `file`.
@@ -49,6 +49,34 @@ pub fn slot_of(cache: CacheState, file: usize, page: usize) -> usize
         i += 1;
     }
     device::SLOTS
+}
+
+// Of one file: no page is cached.
+fn none_cached() -> [u8; media::PAGES_PER_FILE]
+    ensures { λ r. ⌜ r ≡ noneCached ⌝ }
+{
+    [device::SLOTS as u8; media::PAGES_PER_FILE]
+}
+
+// The slot of each page of a file, SLOTS for a page that is not cached. From the last slot to the first, so that the first that
+// holds a page stays.
+pub fn file_slots(cache: CacheState, file: usize) -> [u8; media::PAGES_PER_FILE]
+    ensures { λ r. ⌜ r ≡ fileSlots pagesPerFile (cache .slots) file ⌝ }
+{
+    let slots = cache.slots;
+    let mut table = none_cached();
+    let mut k = device::SLOTS;
+    while 0 < k {
+        k -= 1;
+        let s = slots[k];
+        let p = s.page as usize;
+        if holds(s, file, p) {
+            if p < media::PAGES_PER_FILE {
+                table[p] = k as u8;
+            }
+        }
+    }
+    table
 }
 
 // The first free slot, or SLOTS where none is.
