@@ -5,9 +5,9 @@ use device::CacheState;
 use device::FileSizes;
 use device::Slot;
 ghost use mathlib.Core.Path.{_≡_};
-ghost use mathlib.Core.Bool.{true};
+ghost use mathlib.Core.Bool.{_&&_};
 ghost use mathlib.Core.List.{map};
-ghost use Prim.Native.Nat.{_<_, _^_};
+ghost use Prim.Native.Nat.{_<_, _≤_, _^_};
 ghost use lib.ListN.{getD};
 ghost use lib.Dec.{eqb, leb};
 ghost use Rattle.answer.specs.Coded.{coded, done};
@@ -19,6 +19,7 @@ ghost use Rattle.device.specs.Device.{deviceOf, slotCount, freeSlot, holds, isF
 ghost use Rattle.device.specs.Sizes.{inOrder};
 ghost use Rattle.device.specs.Sound.{inRange, holdsAlone, sizesIn, isDown, isSound};
 ghost use Rattle.device.specs.Truncating.{pagesFrom};
+ghost use Rattle.cache_state.specs.Tables.{noneSeen, noneCached, fileSlots};
 ghost use Rattle.device.specs.Admission.{mediaShape, mountedTests, stateTests, mountTests, deviceTests, fileTests};
 
 // Whether a slot holds page `page` of file `file`.
@@ -48,6 +49,34 @@ pub fn slot_of(cache: CacheState, file: usize, page: usize) -> usize
         i += 1;
     }
     device::SLOTS
+}
+
+// Of one file: no page is cached.
+fn none_cached() -> [u8; media::PAGES_PER_FILE]
+    ensures { λ r. ⌜ r ≡ noneCached ⌝ }
+{
+    [device::SLOTS as u8; media::PAGES_PER_FILE]
+}
+
+// The slot of each page of a file, SLOTS for a page that is not cached. From the last slot to the first, so that the first that
+// holds a page stays.
+pub fn file_slots(cache: CacheState, file: usize) -> [u8; media::PAGES_PER_FILE]
+    ensures { λ r. ⌜ r ≡ fileSlots pagesPerFile (cache .slots) file ⌝ }
+{
+    let slots = cache.slots;
+    let mut table = none_cached();
+    let mut k = device::SLOTS;
+    while 0 < k {
+        k -= 1;
+        let s = slots[k];
+        let p = s.page as usize;
+        if holds(s, file, p) {
+            if p < media::PAGES_PER_FILE {
+                table[p] = k as u8;
+            }
+        }
+    }
+    table
 }
 
 // The first free slot, or SLOTS where none is.
@@ -150,58 +179,31 @@ fn in_range(s: Slot, pages: usize) -> bool
     false
 }
 
-fn slots_in_range(cache: CacheState, pages: usize) -> bool
-    ensures { λ r. ⌜ r ≡ every (inRange pages) (cache .slots) ⌝ }
+// No page has been seen.
+fn none_seen() -> [bool; media::FILES * media::PAGES_PER_FILE]
+    ensures { λ r. ⌜ r ≡ noneSeen ⌝ }
+{
+    [false; media::FILES * media::PAGES_PER_FILE]
+}
+
+// Whether used slots name pages that there are, and no page twice, and free slots carry 0 and 0.
+fn slots_sound(cache: CacheState, pages: usize) -> bool
+    requires { ⌜ pages ≤ pagesPerFile ⌝ }
+    ensures { λ r. ⌜ r ≡ every (inRange pages) (cache .slots) && everyBelow slotCount (holdsAlone (cache .slots)) ⌝ }
 {
     let slots = cache.slots;
+    let mut seen = none_seen();
     let mut i = 0;
     while i < device::SLOTS {
-        if in_range(slots[i], pages) {
-            i += 1;
-        } else {
-            return false;
-        }
-    }
-    true
-}
-
-// Whether slot k, which holds the page, is the first that does.
-fn is_first(cache: CacheState, file: usize, page: usize, k: usize) -> bool
-    requires { ⌜ (k < slotCount) × (holds file page (getD (cache .slots) k freeSlot) ≡ true) ⌝ }
-    ensures { λ r. ⌜ r ≡ eqb (firstIndex (holds file page) (cache .slots)) k ⌝ }
-{
-    let slots = cache.slots;
-    let mut j = 0;
-    while j < k {
-        if holds(slots[j], file, page) {
-            return false;
-        }
-        j += 1;
-    }
-    true
-}
-
-// Whether slot k is free, or the first that holds its page.
-fn holds_alone(cache: CacheState, k: usize) -> bool
-    requires { ⌜ k < slotCount ⌝ }
-    ensures { λ r. ⌜ r ≡ holdsAlone (cache .slots) k ⌝ }
-{
-    let slots = cache.slots;
-    let s = slots[k];
-    if s.used {
-        let f = s.file as usize;
-        let p = s.page as usize;
-        return is_first(cache, f, p, k);
-    }
-    true
-}
-
-fn slots_alone(cache: CacheState) -> bool
-    ensures { λ r. ⌜ r ≡ everyBelow slotCount (holdsAlone (cache .slots)) ⌝ }
-{
-    let mut i = 0;
-    while i < device::SLOTS {
-        if holds_alone(cache, i) {
+        let s = slots[i];
+        if in_range(s, pages) {
+            if s.used {
+                let at = media::FILES * (s.page as usize) + s.file as usize;
+                if seen[at] {
+                    return false;
+                }
+                seen[at] = true;
+            }
             i += 1;
         } else {
             return false;
@@ -305,21 +307,19 @@ fn is_down(cache: CacheState) -> bool
 
 // Whether the cache state is sound beside the stored sizes.
 fn is_sound(sizes: &[u32], cache: CacheState, pages: usize) -> bool
-    requires { ⌜ fileBytes pages < 2 ^ 32 ⌝ }
+    requires { ⌜ pages ≤ pagesPerFile ⌝ }
     ensures { λ r. ⌜ r ≡ isSound pages (now (sizes .entry)) cache ⌝ }
 {
     let mounted = cache.mounted;
     if 1 < mounted {
         return false;
     }
-    if slots_in_range(cache, pages) {
-        if slots_alone(cache) {
-            if files_in_order(sizes, cache, pages) {
-                if mounted == 0 {
-                    return is_down(cache);
-                }
-                return true;
+    if slots_sound(cache, pages) {
+        if files_in_order(sizes, cache, pages) {
+            if mounted == 0 {
+                return is_down(cache);
             }
+            return true;
         }
     }
     false

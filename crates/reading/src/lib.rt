@@ -7,7 +7,7 @@ use media::PAGE_BYTES;
 use media::PAGES_PER_FILE;
 ghost use mathlib.Core.Path.{_≡_};
 ghost use mathlib.Core.List.{List};
-ghost use Prim.Native.Nat.{_+_, _≤_, _<_, _^_, ℕ, _%_};
+ghost use Prim.Native.Nat.{_+_, _≤_, _<_, _^_, ℕ, _/_, _%_};
 ghost use lib.ListN.{length};
 ghost use lib.Dec.{leb};
 ghost use denote.Ref.{ptr};
@@ -16,7 +16,8 @@ ghost use Rattle.answer.specs.Admission.{firstRefusal};
 ghost use Rattle.memory.specs.Bytes.{overwrite};
 ghost use Rattle.media.specs.Geometry.{files, fileBytes, mediaBytes, pageBytes, pagesPerFile};
 ghost use Rattle.media.specs.Write.{mediaOf};
-ghost use Rattle.device.specs.Device.{deviceOf, framesBytes};
+ghost use Rattle.scan.specs.Scan.{firstIndex};
+ghost use Rattle.device.specs.Device.{deviceOf, framesBytes, holds};
 ghost use Rattle.device.specs.Current.{currentBytes};
 ghost use Rattle.device.specs.Admission.{give, fileTests};
 ghost use Rattle.device.specs.Reading.{read};
@@ -37,23 +38,24 @@ fn admit_at(
     cache_state::admit(media, sizes, frames, cache, file, position <= greatest)
 }
 
-// The current bytes of a file from `at` on, within one page, fill the buffer.
+// The current bytes of a file from `at` on, within one page, whose slot is k, fill the buffer.
 fn read_page(
     media: &[u8],
     frames: &[u8],
     cache: CacheState,
     file: usize,
     at: usize,
+    k: usize,
     buffer: &mut [u8],
     pages: usize,
 )
     requires { ⌜ (fileBytes pages < 2 ^ 32) × (length (now media) ≡ mediaBytes pages) × (length (now frames) ≡ framesBytes) × (file < files)
-        × (at + length (now buffer) ≤ fileBytes pages) × (at % pageBytes + length (now buffer) ≤ pageBytes) ⌝ }
+        × (at + length (now buffer) ≤ fileBytes pages) × (at % pageBytes + length (now buffer) ≤ pageBytes)
+        × (k ≡ firstIndex (holds file (at / pageBytes)) (cache .slots)) ⌝ }
     ensures { λ r. ⌜ ((stored : List ℕ) → now (buffer .exit)
         ≡ currentBytes pages (deviceOf (mediaOf (now (media .entry)) stored) (now (frames .entry)) cache) file at (length (now (buffer .entry)))) ⌝ }
 {
     let n = buffer.len();
-    let k = cache_state::slot_of(cache, file, at / PAGE_BYTES);
     if k < SLOTS {
         let first = PAGE_BYTES * k + at % PAGE_BYTES;
         let last = first + n;
@@ -77,16 +79,18 @@ fn read_pages(
     buffer: &mut [u8],
     pages: usize,
 )
-    requires { ⌜ (fileBytes pages < 2 ^ 32) × (length (now media) ≡ mediaBytes pages) × (length (now frames) ≡ framesBytes) × (file < files)
+    requires { ⌜ (pages ≤ pagesPerFile) × (length (now media) ≡ mediaBytes pages) × (length (now frames) ≡ framesBytes) × (file < files)
         × (position + count ≤ fileBytes pages) × (count ≤ length (now buffer)) ⌝ }
     ensures { λ r. ⌜ ((stored : List ℕ) → now (buffer .exit)
         ≡ overwrite (now (buffer .entry)) 0 (currentBytes pages (deviceOf (mediaOf (now (media .entry)) stored) (now (frames .entry)) cache) file position count)) ⌝ }
 {
+    let slots = cache_state::file_slots(cache, file);
     let mut i = 0;
     while i < count {
         let at = position + i;
+        let k = slots[at / PAGE_BYTES] as usize;
         let to = i + number::min(PAGE_BYTES - at % PAGE_BYTES, count - i);
-        read_page(media, frames, cache, file, at, &mut buffer[i..to], pages);
+        read_page(media, frames, cache, file, at, k, &mut buffer[i..to], pages);
         i = to;
     }
 }

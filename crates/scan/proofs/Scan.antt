@@ -77,6 +77,13 @@ module _ {A : Type 0} (t : A → Bool) where
   first-passes (x ∷ xs) d h =
       cases (t x) (λ e. rw e e) (λ e. rw e (first-passes xs d (le-of-suc-le-suc (rw e at h))))
 
+  -- none that passes is before it
+  pub first-before : (xs : List A) (d : A) (k : ℕ) → k < length xs → t (getD xs k d) ≡ true → firstIndex t xs ≤ k
+  first-before [] d k h e = absurd (not-suc-le-zero h)
+  first-before (x ∷ xs) d zero h e = rw e (omega arith)
+  first-before (x ∷ xs) d (suc k) h e =
+      cases (t x) (λ q. rw q (omega arith)) (λ q. rw q (suc-le-suc (first-before xs d k (le-of-suc-le-suc h) e)))
+
   -- elements are changed, but none in what the test says of it
   pub first-map : (g : A → A) (xs : List A) → ((x : A) → t (g x) ≡ t x) → firstIndex t (map g xs) ≡ firstIndex t xs
   first-map g [] e = refl

@@ -23,6 +23,7 @@ ghost use Rattle.device.specs.Admission.{give};
 ghost use Rattle.device.specs.Plan.{writeIf, budgeted, Spent};
 ghost use Rattle.device.specs.Syncing.{syncPlan, syncedState, sync};
 ghost use Rattle.device.specs.Mounting.{nonzeroFrom, mountPlan, mount, formatPlan, format};
+ghost use Rattle.cache_state.specs.Tables.{fileSlots};
 ghost use Rattle.writeback.specs.Planned.{syncPlace, plannedWrites, Allowed};
 
 // A media write of a sync: TRIM to a size, PAGE with the slot that has its bytes, SIZE, or none at this place.
@@ -33,16 +34,19 @@ enum PlannedWrite {
     Nothing,
 }
 
-// The media write at a place of a sync's plan: 0 is the TRIM, 1 to `pages` are the pages, ascending, then comes the SIZE.
+// The media write at a place of a sync's plan: 0 is the TRIM, 1 to `pages` are the pages, ascending, then comes the SIZE. The slot
+// of each page is told.
 fn planned_write(
     sizes: &[u32],
     cache: CacheState,
+    slots: [u8; media::PAGES_PER_FILE],
     file: usize,
     place: usize,
     pages: usize,
 ) -> PlannedWrite
     requires { ⌜ (length (now sizes) ≡ files) × (file < files)
-        × (getD (cache .floor) file 0 ≤ getD (cache .logical) file 0) × (getD (cache .logical) file 0 ≤ fileBytes pages) ⌝ }
+        × (getD (cache .floor) file 0 ≤ getD (cache .logical) file 0) × (getD (cache .logical) file 0 ≤ fileBytes pages)
+        × (pages ≤ pagesPerFile) × (slots ≡ fileSlots pagesPerFile (cache .slots) file) ⌝ }
     ensures { λ r. ⌜ ((frames : List ℕ) → plannedWrites frames file r ≡ syncPlace pages (deviceOf (mediaOf [] (now (sizes .entry))) frames cache) file place)
         × Allowed pages (now (sizes .entry)) file r ⌝ }
 {
@@ -59,7 +63,7 @@ fn planned_write(
     }
     if place <= pages {
         let number = place - 1;
-        let k = cache_state::slot_of(cache, file, number);
+        let k = slots[number] as usize;
         if k < device::SLOTS {
             return PlannedWrite::Page(number, k);
         }
@@ -160,10 +164,11 @@ fn sync_writes(
         (syncPlan pagesPerFile (deviceOf (mediaOf (now (media .entry)) (now (sizes .entry))) (now (frames .entry)) cache) file)
         (mediaOf (now (media .exit)) (now (sizes .exit))) ⌝ }
 {
+    let slots = cache_state::file_slots(cache, file);
     let mut needed = 0;
     let mut place = 0;
     while place < media::PAGES_PER_FILE + 2 {
-        let write = planned_write(sizes, cache, file, place, media::PAGES_PER_FILE);
+        let write = planned_write(sizes, cache, slots, file, place, media::PAGES_PER_FILE);
         needed = carry_out(media, sizes, frames, file, write, budget, needed);
         place += 1;
     }

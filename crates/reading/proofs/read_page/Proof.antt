@@ -15,11 +15,8 @@ use Rattle.reading.proofs.read_page.Statement.{statement}
 use Rattle.reading.proofs.read_page.Tie as tie
 
 -- the file ends within the media
-ends : (c : tie.After-floors) → fileStart (c .before .before .before .before .before .before .args .pages) (c .before .before .before .before .before .before .args .file) + fileBytes (c .before .before .before .before .before .before .args .pages) ≤ mediaBytes (c .before .before .before .before .before .before .args .pages)
+ends : (c : tie.After-floors) → fileStart (c .before .before .before .before .before .args .pages) (c .before .before .before .before .before .args .file) + fileBytes (c .before .before .before .before .before .args .pages) ≤ mediaBytes (c .before .before .before .before .before .args .pages)
 ends c = file-end _ _ (omega arith)
-
-slot-of-requires : tie.Need-slot-of-requires
-slot-of-requires c κs = search needs
 
 mul-first : tie.Need-mul-first
 mul-first c = search needs
@@ -91,17 +88,17 @@ same-length c = search needs
 returns : tie.Need-returns
 returns c =
     let p = c .before .before in
-    let s = p .before .before .before .before in
-    let a = s .before .before .before .before .args in
+    let s = p .before .before .before .before .before .before .before in
+    let a = s .args in
     let n : ℕ = length (a .buffer .now) in
-    let first : ℕ = frameStart (s .slot-of .result) + a .at % pageBytes in
+    let first : ℕ = frameStart (a .k) + a .at % pageBytes in
     let e : first + n - first ≡ n = omega arith in
     let l : length (part (a .frames .now) first n) ≡ n = length-part (a .frames .now) first n (omega arith) in
     λ stored.
     p .copy .ensures
     ∙ ap (λ (j : ℕ). overwrite (a .buffer .now) 0 (part (a .frames .now) first j)) e
     ∙ overwrite-whole (a .buffer .now) (part (a .frames .now) first n) l
-    ∙ bytes-cached (a .pages) (deviceOf (mediaOf (a .media .now) stored) (a .frames .now) (a .cache)) (a .file) (a .at) n _ (s .slot-of .ensures) (omega arith) (omega arith) (omega arith)
+    ∙ bytes-cached (a .pages) (deviceOf (mediaOf (a .media .now) stored) (a .frames .now) (a .cache)) (a .file) (a .at) n (a .k) (s .pre .6) (omega arith) (omega arith) (omega arith)
 
 same-length-2 : tie.Need-same-length-2
 same-length-2 c = search needs
@@ -111,21 +108,20 @@ unfolding fileStart
 returns-2 c =
     let p = c .before .before in
     let m = p .before .before .before in
-    let s = m .before .before .before .before in
-    let a = s .before .before .before .before .args in
+    let s = m .before .before .before .before .before .before .before in
+    let a = s .args in
     let n : ℕ = length (a .buffer .now) in
     let from : ℕ = fileStart (a .pages) (a .file) + a .at in
     let e : from + m .min .result - from ≡ min n (getD (a .cache .floor) (a .file) 0 - a .at) = omega arith in
     λ stored.
     p .copy-padded .ensures
     ∙ ap (λ (j : ℕ). overwrite (zeros n) 0 (part (a .media .now) from j)) e
-    ∙ bytes-media (a .pages) (deviceOf (mediaOf (a .media .now) stored) (a .frames .now) (a .cache)) (a .file) (a .at) n _ (s .slot-of .ensures) (omega arith) (omega arith) (omega arith) (omega arith) (omega arith)
+    ∙ bytes-media (a .pages) (deviceOf (mediaOf (a .media .now) stored) (a .frames .now) (a .cache)) (a .file) (a .at) n (a .k) (s .pre .6) (omega arith) (omega arith) (omega arith) (omega arith) (omega arith)
 
 pub read-page-spec : {M : Type 1} → statement M
 read-page-spec =
     tie.close
     (tie.spec
-    slot-of-requires
     mul-first
     add-first
     add-last

@@ -12,12 +12,15 @@ use Rattle.writeback.proofs.sync_writes.Statement.{statement}
 use Rattle.writeback.proofs.sync_writes.Tie as tie
 
 abbrev Inv-loop : tie.InvT-loop
-Inv-loop media₀ sizes₀ frames cache file budget needed₀ place₀ media sizes needed place =
+Inv-loop media₀ sizes₀ frames cache file budget slots needed₀ place₀ media sizes needed place =
     Carried pagesPerFile budget (deviceOf (mediaOf media₀ sizes₀) frames cache) file place needed (mediaOf media sizes)
     × (place ≤ pagesPerFile + 2) × (length media ≡ length media₀) × (length sizes ≡ length sizes₀)
 
 abbrev μ-loop : tie.MeasureT-loop
-μ-loop media₀ sizes₀ frames cache file budget needed₀ place₀ media sizes needed place = pagesPerFile + 2 - place
+μ-loop media₀ sizes₀ frames cache file budget slots needed₀ place₀ media sizes needed place = pagesPerFile + 2 - place
+
+file-slots-requires : tie.Need-file-slots-requires Inv-loop μ-loop
+file-slots-requires c κs = search needs
 
 loop-holds : tie.Need-loop-holds Inv-loop μ-loop
 loop-holds c = (carried-none, search needs, search needs, search needs)
@@ -44,7 +47,7 @@ loop-again c =
     let p = c .before .before .before .before in
     let w = p .before .before .before in
     let l = w .before .before .before in
-    let a = l .before .before .before .before .args in
+    let a = l .before .before .before .before .before .args in
     (carried-next (l .loop .inv .0) (w .planned-write .result) (p .carry-out .result) (mediaOf (p .carry-out .last .0) (p .carry-out .last .1 .0)) (w .planned-write .ensures .0 (a .frames .now)) (p .carry-out .ensures), omega arith, omega (arith, p .carry-out .kept .0, l .loop .inv .2), omega (arith, p .carry-out .kept .1 .0, l .loop .inv .3))
 
 same-length : tie.Need-same-length Inv-loop μ-loop
@@ -62,6 +65,7 @@ sync-writes-spec =
     (tie.spec
     Inv-loop
     μ-loop
+    file-slots-requires
     loop-holds
     add-loop
     planned-write-requires
