@@ -100,8 +100,6 @@ pub struct Run {
     pub buffer: Vec<u8>,
     /// What is written.
     source: Vec<u8>,
-    /// All answers so far, folded into one word.
-    pub answers: u64,
 }
 
 impl Run {
@@ -112,7 +110,6 @@ impl Run {
             buffer: vec![0; FILE_BYTES],
             // No byte is 0, so that a page which is lost shows.
             source: (0..FILE_BYTES).map(|_| rng.between(1, 255) as u8).collect(),
-            answers: 0,
         }
     }
 
@@ -125,7 +122,7 @@ impl Run {
             frames,
             state,
         } = &mut self.memory;
-        let answer = match step {
+        match step {
             Step::Format => S::format(media, sizes, state, MOUNT_WRITES).into(),
             Step::Mount => S::mount(media, sizes, state, MOUNT_WRITES).into(),
             Step::Read {
@@ -157,9 +154,7 @@ impl Run {
                 media[at..at + 512].copy_from_slice(&self.source[..512]);
                 0
             }
-        };
-        self.answers = self.answers.rotate_left(7) ^ answer;
-        answer
+        }
     }
 
     /// Carries out all steps, several times.
@@ -167,7 +162,7 @@ impl Run {
     pub fn passes<S: Store>(&mut self, steps: &[Step], passes: usize) {
         for _ in 0..passes {
             for &step in steps {
-                self.step::<S>(step);
+                black_box(self.step::<S>(step));
             }
         }
         black_box(&mut self.memory);
@@ -393,4 +388,99 @@ fn mixed() -> Vec<Step> {
         steps.push(step);
     }
     steps
+}
+
+#[cfg(test)]
+mod tests {
+    use random_calls::Reference;
+
+    use super::*;
+
+    fn copies(name: &str) -> Vec<usize> {
+        let scenarios = all();
+        let scenario = scenarios
+            .iter()
+            .find(|scenario| scenario.name.starts_with(name))
+            .expect("there is one");
+        let mut run = scenario.ready::<Reference>();
+        run.passes::<Reference>(&scenario.steps, 1);
+        let steps = scenario.steps.iter();
+        steps
+            .flat_map(|&step| run.copies::<Reference>(step))
+            .collect()
+    }
+
+    #[test]
+    fn bytes_that_are_moved() {
+        assert_eq!(copies("serial"), [12, 256].repeat(16));
+        assert_eq!(copies("fill"), [256; 32]);
+        assert_eq!(copies("read 4,096 bytes, none"), [4_096; 16]);
+        assert_eq!(copies("read 4,096 bytes, all"), [4_096; 16]);
+        assert_eq!(copies("empty read"), []);
+
+        // 512 entries, 64 pages, and the trim of the full file
+        let odometer = copies("odometer");
+        assert_eq!(odometer.len(), 512 + 64 + 1);
+        assert_eq!(odometer.iter().sum::<usize>(), 512 * 8 + 64 * 256 + 4_096);
+
+        // all that is past the stored sizes 0, 500, .. 3,500
+        let mount = copies("mount");
+        assert_eq!(mount.iter().sum::<usize>(), 4 * (32_768 - 500 * 28));
+    }
+
+    #[test]
+    fn a_mount_after_a_cut_has_one_file_to_trim() {
+        let scenarios = all();
+        let scenario = &scenarios[5];
+        let mut run = scenario.ready::<Reference>();
+        for _ in 0..2 {
+            assert_eq!(run.step::<Reference>(Step::Mount), 0);
+            run.step::<Reference>(Step::LeaveTail);
+            assert_eq!(run.step::<Reference>(Step::Mount), 1);
+        }
+        assert_eq!(scenario.calls(), 4);
+    }
+
+    #[test]
+    fn the_mixed_session_has_all_calls_and_answers() {
+        let scenarios = all();
+        let scenario = &scenarios[6];
+        let mut run = scenario.ready::<Reference>();
+        let mut answers = [0; 10];
+        let mut looks = 0;
+        for &step in &scenario.steps {
+            let answer = run.step::<Reference>(step);
+            if let Step::Look { .. } = step {
+                looks += usize::from(answer != 0);
+            } else {
+                answers[(answer >> 16) as usize] += 1;
+            }
+        }
+        assert!(answers[0] > 3_000, "{answers:?}");
+        assert!(answers[8] > 0 && answers[9] > 0, "{answers:?}");
+        assert!(looks > 0);
+    }
+
+    #[test]
+    fn differences_are_seen() {
+        let scenarios = all();
+        let mut one = scenarios[4].ready::<Reference>();
+        assert_eq!(different(&one, &one.clone()), None);
+        type Alter = fn(&mut Run);
+        let alter: [(Alter, &str); 5] = [
+            (|run| run.buffer[9] ^= 1, "buffers of reads"),
+            (|run| run.memory.media[9] ^= 1, "media"),
+            (|run| run.memory.sizes[1] ^= 1, "stored sizes"),
+            (|run| run.memory.state[73] ^= 1, "cache states"),
+            (|run| run.memory.frames[9] ^= 1, "frames"),
+        ];
+        for (alter, what) in alter {
+            let mut two = one.clone();
+            alter(&mut two);
+            assert_eq!(different(&one, &two), Some(what));
+        }
+        // the last slot is free
+        one.memory.frames[6_143] ^= 1;
+        assert_eq!(different(&one, &scenarios[4].ready::<Reference>()), None);
+    }
 }

@@ -37,14 +37,17 @@ fn time(side: &mut Side<'_>, passes: usize) -> f64 {
     start.elapsed().as_secs_f64()
 }
 
+/// More passes than this are not made, however little they take.
+const MOST: usize = 1 << 28;
+
 /// The passes that take about this long.
 fn passes(side: &mut Side<'_>, round: Duration) -> usize {
     let wanted = round.as_secs_f64();
     let mut passes = 1;
     loop {
         let taken = time(side, passes);
-        if taken >= wanted / 4.0 {
-            return ((passes as f64 * wanted / taken) as usize).max(1);
+        if taken >= wanted / 4.0 || passes == MOST {
+            return ((passes as f64 * wanted / taken) as usize).clamp(1, MOST);
         }
         passes *= 2;
     }
@@ -97,7 +100,8 @@ mod tests {
             effort,
         );
         assert_eq!(times.iter().map(Vec::len).collect::<Vec<_>>(), [4, 4]);
-        assert!(first > 4 && second > 4);
-        assert!(times[1].iter().all(|&time| time > 0.0));
+        // the first takes no time
+        assert!(first > MOST && second > 4);
+        assert!(times[1].iter().all(|&time| time > 1e-6));
     }
 }

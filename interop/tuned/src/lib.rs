@@ -9,7 +9,7 @@
 
 mod state;
 
-use state::{number, put_number, FLOOR, LOGICAL, SLOT};
+use state::{number, put_number, Slots, FLOOR, LOGICAL, SLOT};
 
 const FILES: usize = 8;
 const PAGE: usize = 256;
@@ -29,8 +29,8 @@ const RANGE: u32 = 7 << 16;
 const NO_ROOM: u32 = 8 << 16;
 const CUT: u32 = 9 << 16;
 
-/// The tests of a call on a mounted device, SHAPE to NO FILE. Of a call that
-/// passes, the pages of the file that are cached, a bit each.
+/// The tests of a call on a mounted device, SHAPE to NO FILE. Finds the slots of
+/// the pages in passing.
 #[inline(always)]
 fn admit(
     media: &[u8],
@@ -38,7 +38,8 @@ fn admit(
     frames: &[u8],
     state: &[u8],
     file: usize,
-) -> Result<u16, u32> {
+    slots: &mut Slots,
+) -> Result<(), u32> {
     let (Ok(sizes), Ok(state)) = (
         <&[u32; FILES]>::try_from(sizes),
         <&[u8; STATE]>::try_from(state),
@@ -53,10 +54,7 @@ fn admit(
     if !order.stored {
         return Err(MEDIA_REFUSED);
     }
-    let Some(cached) = state::cached_pages(state) else {
-        return Err(BOOKS);
-    };
-    if !order.cached {
+    if !order.cached || !slots.find(state) {
         return Err(BOOKS);
     }
     match state[0] {
@@ -67,15 +65,7 @@ fn admit(
     if file >= FILES {
         return Err(NO_FILE);
     }
-    Ok((cached >> (PAGES * file)) as u16)
-}
-
-/// The pages that bytes `from` up to `to` lie in, a bit each; `from` is below
-/// `to`.
-#[inline(always)]
-fn pages_of(from: usize, to: usize) -> u16 {
-    let (first, last) = (from / PAGE, (to - 1) / PAGE);
-    (u32::MAX << first & u32::MAX >> (31 - last)) as u16
+    Ok(())
 }
 
 /// Makes the state the down state.
@@ -99,10 +89,10 @@ pub fn read(
     position: usize,
     buffer: &mut [u8],
 ) -> u32 {
-    let cached = match admit(media, sizes, frames, state, file) {
-        Ok(cached) => cached,
-        Err(refused) => return refused,
-    };
+    let mut slots = Slots::none();
+    if let Err(refused) = admit(media, sizes, frames, state, file, &mut slots) {
+        return refused;
+    }
     if position > FILE {
         return RANGE;
     }
@@ -114,40 +104,30 @@ pub fn read(
     }
     let floor = number(state, FLOOR + 4 * file);
     let buffer = &mut buffer[..count];
-    let touched = cached & pages_of(position, end);
     let bytes = &media[file * FILE..(file + 1) * FILE];
-    if touched == 0 {
-        copy_stored(bytes, floor, position, buffer);
-        return count as u32;
-    }
-    if touched.is_power_of_two() && position / PAGE == (end - 1) / PAGE {
-        let page = position / PAGE;
-        let start = PAGE * state::slot_of(state, file, page) + position % PAGE;
-        buffer.copy_from_slice(&frames[start..start + count]);
-        return count as u32;
-    }
-    let slots = state::slots_of_file(state, file);
     let mut at = position;
     while at < end {
-        let page = at / PAGE;
-        let stop = if touched >> page & 1 == 1 {
-            let stop = (PAGE * (page + 1)).min(end);
-            let start = PAGE * slots[page] as usize + at % PAGE;
+        let mut page = at / PAGE;
+        let stop;
+        if let Some(slot) = slots.get(file, page) {
+            stop = (PAGE * (page + 1)).min(end);
+            let start = PAGE * slot + at % PAGE;
             buffer[at - position..stop - position]
                 .copy_from_slice(&frames[start..start + (stop - at)]);
-            stop
         } else {
-            // as far as no page is cached
-            let run = (u32::from(touched) >> page | 1 << (PAGES - page)).trailing_zeros();
-            let stop = (PAGE * (page + run as usize)).min(end);
+            // pages that are not cached, in one piece
+            page += 1;
+            while PAGE * page < end && slots.get(file, page).is_none() {
+                page += 1;
+            }
+            stop = (PAGE * page).min(end);
             copy_stored(
                 bytes,
                 floor,
                 at,
                 &mut buffer[at - position..stop - position],
             );
-            stop
-        };
+        }
         at = stop;
     }
     count as u32
@@ -174,10 +154,10 @@ pub fn write(
     position: usize,
     bytes: &[u8],
 ) -> u32 {
-    let cached = match admit(media, sizes, frames, state, file) {
-        Ok(cached) => cached,
-        Err(refused) => return refused,
-    };
+    let mut slots = Slots::none();
+    if let Err(refused) = admit(media, sizes, frames, state, file, &mut slots) {
+        return refused;
+    }
     if bytes.len() > FILE || position > FILE - bytes.len() {
         return RANGE;
     }
@@ -187,20 +167,14 @@ pub fn write(
     let stored = &media[file * FILE..(file + 1) * FILE];
     let floor = number(state, FLOOR + 4 * file);
     let end = position + bytes.len();
-    let touched = cached & pages_of(position, end);
-    let slots = if touched == 0 {
-        [0; PAGES]
-    } else {
-        state::slots_of_file(state, file)
-    };
     let mut free = 0;
     let mut at = position;
     while at < end {
         let page = at / PAGE;
         let start = PAGE * page;
         let stop = (start + PAGE).min(end);
-        let slot = if touched >> page & 1 == 1 {
-            slots[page] as usize
+        let slot = if let Some(slot) = slots.get(file, page) {
+            slot
         } else {
             while free < SLOTS && state[SLOT + 3 * free] == 1 {
                 free += 1;
@@ -238,31 +212,32 @@ pub fn truncate(
     file: usize,
     n: usize,
 ) -> u32 {
-    let cached = match admit(media, sizes, frames, state, file) {
-        Ok(cached) => cached,
-        Err(refused) => return refused,
-    };
+    let mut slots = Slots::none();
+    if let Err(refused) = admit(media, sizes, frames, state, file, &mut slots) {
+        return refused;
+    }
     if n > FILE {
         return RANGE;
     }
     let floor = number(state, FLOOR + 4 * file);
     put_number(state, FLOOR + 4 * file, floor.min(n));
     put_number(state, LOGICAL + 4 * file, n);
-    if u32::from(cached) >> (n / PAGE) == 0 {
-        return 0;
-    }
-    for (index, slot) in state[SLOT..LOGICAL].chunks_exact_mut(3).enumerate() {
-        if slot[0] == 0 || usize::from(slot[1]) != file {
+    for page in n / PAGE..PAGES {
+        let Some(slot) = slots.get(file, page) else {
             continue;
-        }
-        let start = PAGE * usize::from(slot[2]);
-        if start >= n {
-            slot.fill(0);
-        } else if n < start + PAGE {
-            frames[PAGE * index + (n - start)..PAGE * (index + 1)].fill(0);
+        };
+        if PAGE * page < n {
+            frames[PAGE * slot + n % PAGE..PAGE * (slot + 1)].fill(0);
+        } else {
+            free_slot(state, slot);
         }
     }
     0
+}
+
+#[inline(always)]
+fn free_slot(state: &mut [u8], slot: usize) {
+    state[SLOT + 3 * slot..SLOT + 3 * slot + 3].fill(0);
 }
 
 /// Stores a file. Each media write is carried out whole, in its order.
@@ -275,51 +250,47 @@ pub fn sync(
     file: usize,
     budget: usize,
 ) -> u32 {
-    let cached = match admit(media, sizes, frames, state, file) {
-        Ok(cached) => cached,
-        Err(refused) => return refused,
-    };
+    let mut slots = Slots::none();
+    if let Err(refused) = admit(media, sizes, frames, state, file, &mut slots) {
+        return refused;
+    }
     let logical = number(state, LOGICAL + 4 * file);
     let floor = number(state, FLOOR + 4 * file);
-    let trims = floor < sizes[file] as usize;
-    let resizes = logical != floor;
-    let needed = usize::from(trims) + cached.count_ones() as usize + usize::from(resizes);
-    let mut left = budget.min(needed);
+    let mut done = 0;
+    let cut = |state: &mut [u8]| {
+        state.fill(0);
+        CUT + budget as u32
+    };
 
     let bytes = &mut media[file * FILE..(file + 1) * FILE];
-    if trims && left > 0 {
+    if floor < sizes[file] as usize {
+        if done == budget {
+            return cut(state);
+        }
         bytes[floor..].fill(0);
         sizes[file] = floor as u32;
-        left -= 1;
+        done += 1;
     }
-    if cached != 0 && left > 0 {
-        let slots = state::slots_of_file(state, file);
-        let mut pages = cached;
-        while pages != 0 && left > 0 {
-            let page = pages.trailing_zeros() as usize;
-            pages &= pages - 1;
-            let slot = slots[page] as usize;
-            bytes[PAGE * page..PAGE * (page + 1)]
-                .copy_from_slice(&frames[PAGE * slot..PAGE * (slot + 1)]);
-            left -= 1;
+    for (page, bytes) in bytes.chunks_exact_mut(PAGE).enumerate() {
+        let Some(slot) = slots.get(file, page) else {
+            continue;
+        };
+        if done == budget {
+            return cut(state);
         }
+        bytes.copy_from_slice(&frames[PAGE * slot..PAGE * (slot + 1)]);
+        free_slot(state, slot);
+        done += 1;
     }
-    if budget < needed {
-        state.fill(0);
-        return CUT + budget as u32;
-    }
-    if resizes {
+    if logical != floor {
+        if done == budget {
+            return cut(state);
+        }
         sizes[file] = logical as u32;
         put_number(state, FLOOR + 4 * file, logical);
+        done += 1;
     }
-    if cached != 0 {
-        for slot in state[SLOT..LOGICAL].chunks_exact_mut(3) {
-            if usize::from(slot[1]) == file {
-                slot.fill(0);
-            }
-        }
-    }
-    needed as u32
+    done as u32
 }
 
 /// The bytes from a position to the end of its page or of the file.
@@ -341,7 +312,7 @@ pub fn look_count(
     file: usize,
     position: usize,
 ) -> u32 {
-    if let Err(refused) = admit(media, sizes, frames, state, file) {
+    if let Err(refused) = admit(media, sizes, frames, state, file, &mut Slots::none()) {
         return refused;
     }
     if position > FILE {
@@ -360,9 +331,10 @@ pub fn look(
     file: usize,
     position: usize,
 ) -> u64 {
-    let Ok(cached) = admit(media, sizes, frames, state, file) else {
+    let mut slots = Slots::none();
+    if admit(media, sizes, frames, state, file, &mut slots).is_err() {
         return 0;
-    };
+    }
     if position > FILE {
         return 0;
     }
@@ -371,8 +343,7 @@ pub fn look(
         return 0;
     }
     let page = position / PAGE;
-    let (offset, source, count) = if cached >> page & 1 == 1 {
-        let slot = state::slot_of(state, file, page);
+    let (offset, source, count) = if let Some(slot) = slots.get(file, page) {
         (PAGE * slot + position % PAGE, 1, count)
     } else {
         let floor = number(state, FLOOR + 4 * file);

@@ -20,6 +20,11 @@ fn word(state: &[u8], at: usize) -> u32 {
     u32::from_le_bytes(state[at..at + 4].try_into().expect("four bytes"))
 }
 
+#[inline(always)]
+fn double_word(state: &[u8], at: usize) -> u64 {
+    u64::from_le_bytes(state[at..at + 8].try_into().expect("eight bytes"))
+}
+
 /// Puts a number, at most 4,096, at these four bytes.
 #[inline(always)]
 pub fn put_number(state: &mut [u8], at: usize, n: usize) {
@@ -34,90 +39,86 @@ pub struct Order {
     pub cached: bool,
 }
 
-/// Tests the sizes of all files, without a branch: a number from 0 to 4,096 has
-/// a clear top bit, and so has 4,096 less that number; every other number has
-/// the top bit set in one of the two.
+/// Tests the sizes of all files, two in a word, without a branch. Where two
+/// numbers have a clear top bit, that bit of the first with its top bit set,
+/// less the second, says whether the first is at least the second.
 #[inline(always)]
 pub fn sizes_in_order(sizes: &[u32; FILES], state: &[u8; STATE]) -> Order {
-    const FILE: u32 = super::FILE as u32;
-    let (mut stored_bits, mut cached_bits) = (0, 0);
-    for (file, &stored) in sizes.iter().enumerate() {
-        let logical = word(state, LOGICAL + 4 * file);
-        let floor = word(state, FLOOR + 4 * file);
-        stored_bits |= stored | FILE.wrapping_sub(stored);
-        cached_bits |= logical
-            | floor
-            | FILE.wrapping_sub(logical)
-            | logical.wrapping_sub(floor)
-            | stored.wrapping_sub(floor);
+    const TOP: u64 = 0x8000_0000_8000_0000;
+    const FILE: u64 = TOP | (super::FILE as u64) << 32 | super::FILE as u64;
+    let mut stored_tops = 0;
+    let mut stored_fits = TOP;
+    let mut tops = 0;
+    let mut fits = TOP;
+    for pair in 0..FILES / 2 {
+        let stored = u64::from(sizes[2 * pair]) | u64::from(sizes[2 * pair + 1]) << 32;
+        let logical = double_word(state, LOGICAL + 8 * pair);
+        let floor = double_word(state, FLOOR + 8 * pair);
+        stored_tops |= stored;
+        stored_fits &= FILE.wrapping_sub(stored);
+        tops |= logical | floor;
+        fits &= FILE.wrapping_sub(logical)
+            & (logical | TOP).wrapping_sub(floor)
+            & (stored | TOP).wrapping_sub(floor);
     }
     Order {
-        stored: stored_bits >> 31 == 0,
-        cached: cached_bits >> 31 == 0,
+        stored: stored_tops & TOP == 0 && stored_fits == TOP,
+        cached: tops & TOP == 0 && fits == TOP,
     }
 }
 
-/// The cached pages, bit 16 * file + page for each; nothing where a slot is
-/// neither free nor names a page that there is, or two name the same page.
-#[inline(always)]
-pub fn cached_pages(state: &[u8; STATE]) -> Option<u128> {
-    let mut pages = [0u64; 2];
-    let mut used = 0;
-    let mut wrong = 0;
-    // Eight slots at a time; those that are all free in three words.
-    for group in 0..3 {
-        let at = SLOT + 24 * group;
-        let any = (0..3).fold(0, |any, i| {
-            let bytes = &state[at + 8 * i..at + 8 * i + 8];
-            any | u64::from_le_bytes(bytes.try_into().expect("eight bytes"))
-        });
-        if any == 0 {
-            continue;
-        }
-        for slot in 0..8 {
-            // The last byte is the next slot's.
-            let bits = word(state, at + 3 * slot) & 0xff_ffff;
-            let one = bits & 1;
-            // Free slots are 0, used ones have no other bits than these.
-            wrong |= (bits & !0x0f_0701) | (bits & one.wrapping_sub(1));
-            let page = (bits >> 16 & 15) | (bits >> 4 & 0x30);
-            let bit = u64::from(one) << page;
-            let high = u64::from(bits >> 10 & 1).wrapping_neg();
-            pages[0] |= bit & !high;
-            pages[1] |= bit & high;
-            used += one;
-        }
+/// No slot.
+const NONE: u8 = 0xff;
+
+/// The slot of each page of each file, at 16 * file + page, or [`NONE`].
+pub struct Slots([u8; FILES * PAGES]);
+
+impl Slots {
+    /// No page has a slot.
+    #[inline(always)]
+    pub fn none() -> Slots {
+        Slots([NONE; FILES * PAGES])
     }
-    // Two slots with the same page set one bit.
-    let distinct = pages[0].count_ones() + pages[1].count_ones();
-    (wrong == 0 && distinct == used).then_some(u128::from(pages[0]) | u128::from(pages[1]) << 64)
+
+    /// The slot of a page.
+    #[inline(always)]
+    pub fn get(&self, file: usize, page: usize) -> Option<usize> {
+        let slot = self.0[(PAGES * file + page) % (FILES * PAGES)];
+        (slot != NONE).then_some(usize::from(slot) % SLOTS)
+    }
+
+    /// Puts the slots of a state down. False where a slot is neither free nor
+    /// names a page that there is, or two name the same page.
+    #[inline(always)]
+    pub fn find(&mut self, state: &[u8; STATE]) -> bool {
+        let mut wrong = 0;
+        let mut first = NONE;
+        let mut put = |slot: usize| {
+            // The top byte is the next slot's.
+            let bits = word(state, SLOT + 3 * slot) & 0xff_ffff;
+            if bits != 0 {
+                // A used slot has 1 in its low byte, and a file and a page.
+                wrong |= (bits ^ 1) & !0x0f_0700;
+                let page = ((bits >> 4 | bits >> 16) & 0x7f) as usize;
+                first &= self.0[page];
+                self.0[page] = slot as u8;
+            }
+        };
+        // Eight slots at a time; those that are all free in three words.
+        for group in 0..SLOTS / 8 {
+            let [a, b, c] = [0, 8, 16].map(|i| double_word(state, SLOT + 24 * group + i));
+            if a | b | c != 0 {
+                for slot in [0, 1, 2, 3, 4, 5, 6, 7] {
+                    put(8 * group + slot);
+                }
+            }
+        }
+        wrong == 0 && first == NONE
+    }
 }
 
 /// Whether all bytes are 0.
 #[inline(always)]
 pub fn is_down(state: &[u8; STATE]) -> bool {
     state.iter().fold(0, |all, byte| all | byte) == 0
-}
-
-/// The slot of a page that is cached.
-#[inline(always)]
-pub fn slot_of(state: &[u8], file: usize, page: usize) -> usize {
-    let wanted = 1 | (file as u32) << 8 | (page as u32) << 16;
-    (0..SLOTS)
-        .find(|slot| word(state, SLOT + 3 * slot) & 0xff_ffff == wanted)
-        .unwrap_or(0)
-}
-
-/// The slot of each page of a file; any number where it is not cached.
-#[inline(always)]
-pub fn slots_of_file(state: &[u8], file: usize) -> [u8; PAGES] {
-    let wanted = 1 | (file as u32) << 8;
-    let mut slots = [0; PAGES];
-    for slot in 0..SLOTS {
-        let bits = word(state, SLOT + 3 * slot) & 0xff_ffff;
-        if bits & 0xffff == wanted {
-            slots[(bits >> 16 & 15) as usize] = slot as u8;
-        }
-    }
-    slots
 }
