@@ -7,12 +7,13 @@ use std::process::{Command, Stdio};
 
 fn main() {
     println!("cargo::rerun-if-changed=build.rs");
+    // Debian's list of what is installed. A header that is installed keeps the
+    // date of its making, so that its own date tells nothing.
+    println!("cargo::rerun-if-changed=/var/lib/dpkg/status");
     for (name, header, library) in [
         ("lmdb", "lmdb.h", "lmdb"),
         ("sqlite", "sqlite3.h", "sqlite3"),
     ] {
-        // where Debian puts it: looked for again when it comes or goes
-        println!("cargo::rerun-if-changed=/usr/include/{header}");
         if links(header, library) {
             println!("cargo::rustc-cfg={name}");
             println!("cargo::rustc-link-lib=dylib={library}");

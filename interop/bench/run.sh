@@ -6,9 +6,12 @@ set -euo pipefail
 unset CDPATH
 here=$(cd -- "$(dirname -- "$(readlink -f -- "${BASH_SOURCE[0]}")")" && pwd)
 
+room=$(mktemp -d)
+trap 'rm -rf "$room"' EXIT
+
 # there HEADER LIBRARY: the C compiler finds them
 there() {
-    printf '#include <%s>\nint main(void) { return 0; }\n' "$1" | cc -x c - -o /dev/null "-l$2" 2>/dev/null
+    printf '#include <%s>\nint main(void) { return 0; }\n' "$1" | cc -x c - -o "$room/probe" "-l$2" 2>/dev/null
 }
 
 missing=()
@@ -21,4 +24,4 @@ fi
 
 cd -- "$here/.."
 cargo build --offline --quiet --profile bench-run -p bench
-exec "${CARGO_TARGET_DIR:-target}/bench-run/bench" "$@"
+"${CARGO_TARGET_DIR:-target}/bench-run/bench" "$@"
