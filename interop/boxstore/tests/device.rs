@@ -254,6 +254,8 @@ fn what_a_look_leaves_out_is_zeros() {
 
     assert_eq!(device.look(2, 700).unwrap(), []);
     assert_eq!(device.look_count(2, 700), Ok(0));
+    assert_eq!(device.look(7, FILE_BYTES).unwrap(), []);
+    assert_eq!(device.look_count(7, FILE_BYTES), Ok(0));
 }
 
 #[test]
