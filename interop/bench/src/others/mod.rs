@@ -43,7 +43,7 @@ pub fn all(folder: &Path) -> io::Result<Vec<Named>> {
     };
     Ok(vec![
         (
-            "pwrite, fdatasync",
+            "plain file: pwrite, fdatasync",
             Some(Box::new(file::Files::open(&room("file")?)?)),
         ),
         #[cfg(lmdb)]
