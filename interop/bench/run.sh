@@ -1,0 +1,27 @@
+#!/usr/bin/env bash
+# The benchmark: the proved store beside the tuned one, a plain copy, plain files, LMDB and SQLite.
+# usage: interop/bench/run.sh [--check | words of bench]
+# `rt staticlib boxstore` makes the archive; BOXSTORE_ARCHIVE_DIR names another folder to take it from.
+set -euo pipefail
+unset CDPATH
+here=$(cd -- "$(dirname -- "$(readlink -f -- "${BASH_SOURCE[0]}")")" && pwd)
+
+room=$(mktemp -d)
+trap 'rm -rf "$room"' EXIT
+
+# there HEADER LIBRARY: the C compiler finds them
+there() {
+    printf '#include <%s>\nint main(void) { return 0; }\n' "$1" | cc -x c - -o "$room/probe" "-l$2" 2>/dev/null
+}
+
+missing=()
+there lmdb.h lmdb || missing+=(liblmdb-dev)
+there sqlite3.h sqlite3 || missing+=(libsqlite3-dev)
+if [ ${#missing[@]} -ne 0 ]; then
+    DEBIAN_FRONTEND=noninteractive apt-get install -y -q "${missing[@]}" >/dev/null 2>&1 ||
+        echo "run.sh: apt-get does not install ${missing[*]}; the benchmark goes without" >&2
+fi
+
+cd -- "$here/.."
+cargo build --offline --quiet --profile bench-run -p bench
+"${CARGO_TARGET_DIR:-target}/bench-run/bench" "$@"

@@ -1,0 +1,426 @@
+//! Times the proved store beside the tuned one, beside a plain copy, and beside
+//! what a program on Linux would take otherwise. Prints Markdown.
+
+mod others;
+mod scenario;
+mod timing;
+
+use std::hint::black_box;
+use std::io::{self, Write};
+use std::process::ExitCode;
+use std::time::Duration;
+
+use boxstore::FILE_BYTES;
+use random_calls::{store_of, Store};
+
+use others::{Named, Other, Room};
+use scenario::{different, Run, Scenario, Step};
+use timing::{measure, median, ratio, Effort, Side};
+
+store_of!(
+    /// The proved code, over its archive.
+    Proved,
+    boxstore::raw
+);
+store_of!(
+    /// The store written for speed.
+    Tuned,
+    tuned
+);
+
+const HELP: &str = "\
+usage: bench                   all scenarios, as Markdown tables
+       bench --check           one short round of each, with the comparisons only
+       bench --rounds N        rounds of each side (15)
+       bench --millis N        milliseconds of one side in one round (20)
+       bench --only TEXT       scenarios whose name has the text
+       bench --profile N       N passes of the proved side alone, for a profiler
+";
+
+/// What the arguments ask for.
+struct Options {
+    check: bool,
+    effort: Effort,
+    only: String,
+    profile: Option<usize>,
+}
+
+fn options(arguments: impl Iterator<Item = String>) -> Option<Options> {
+    let mut options = Options {
+        check: false,
+        effort: Effort {
+            rounds: 15,
+            round: Duration::from_millis(20),
+        },
+        only: String::new(),
+        profile: None,
+    };
+    let mut arguments = arguments;
+    while let Some(argument) = arguments.next() {
+        match argument.as_str() {
+            "--check" => options.check = true,
+            "--rounds" => options.effort.rounds = positive(arguments.next())?,
+            "--millis" => {
+                let millis = positive(arguments.next())?;
+                options.effort.round = Duration::from_millis(millis as u64);
+            }
+            "--only" => options.only = arguments.next()?,
+            "--profile" => options.profile = Some(positive(arguments.next())?),
+            _ => return None,
+        }
+    }
+    Some(options)
+}
+
+fn positive(argument: Option<String>) -> Option<usize> {
+    argument?.parse().ok().filter(|&number| number > 0)
+}
+
+fn main() -> ExitCode {
+    let Some(options) = options(std::env::args().skip(1)) else {
+        eprint!("{HELP}");
+        return ExitCode::from(2);
+    };
+    match run(&options, &mut io::stdout().lock()) {
+        Ok(()) => ExitCode::SUCCESS,
+        Err(error) => {
+            eprintln!("bench: {error}");
+            ExitCode::FAILURE
+        }
+    }
+}
+
+fn run(options: &Options, out: &mut impl Write) -> io::Result<()> {
+    let mut scenarios = scenario::all();
+    scenarios.retain(|scenario| scenario.name.contains(&options.only));
+    if scenarios.is_empty() {
+        return Err(io::Error::other("no scenario has that name"));
+    }
+    if let Some(passes) = options.profile {
+        for scenario in &scenarios {
+            let mut run = scenario.ready::<Proved>();
+            run.passes::<Proved>(&scenario.steps, passes);
+        }
+        return Ok(());
+    }
+
+    let room = Room::new()?;
+    let mut others = others::all(&room.folder)?;
+    for scenario in &scenarios {
+        check(scenario).map_err(io::Error::other)?;
+    }
+    for (name, other) in &mut others {
+        if let Some(other) = other {
+            check_other(name, other.as_mut()).map_err(io::Error::other)?;
+        }
+    }
+    if options.check {
+        writeln!(
+            out,
+            "bench: {} scenarios: proved and tuned give the same answers and leave the same memory",
+            scenarios.len()
+        )?;
+        for (name, other) in &others {
+            match other {
+                Some(_) => writeln!(out, "{name}: keeps what it is given")?,
+                None => writeln!(out, "{name}: not installed, skipped")?,
+            }
+        }
+        return Ok(());
+    }
+
+    writeln!(
+        out,
+        "| scenario | calls/s proved | calls/s tuned | time, proved / tuned | bytes/s proved | time, proved / floor |"
+    )?;
+    writeln!(out, "|---|--:|--:|--:|--:|--:|")?;
+    let mut proved = Vec::new();
+    for scenario in &scenarios {
+        let row = time_scenario(scenario, options.effort).map_err(io::Error::other)?;
+        writeln!(
+            out,
+            "| {} | {} | {} | {:.2} | {} | {} |",
+            scenario.name,
+            scaled(row.calls / row.proved),
+            scaled(row.calls / row.tuned),
+            row.to_tuned,
+            row.bytes_per_second(),
+            row.to_floor
+                .map_or("-".to_owned(), |ratio| format!("{ratio:.1}")),
+        )?;
+        out.flush()?;
+        proved.push((scenario.name, row));
+    }
+    writeln!(
+        out,
+        "\nThe media are memory, on both sides. The floor is a plain copy of the bytes that the calls move: those between \
+         caller and store, pages written to the media, bytes that a trim clears, and bytes that a mount has to look at. \
+         Medians of {} rounds of {} ms.\n",
+        options.effort.rounds,
+        options.effort.round.as_millis(),
+    )?;
+    table_of_others(&proved, &mut others, options.effort, out)
+}
+
+/// A number with three digits.
+fn scaled(number: f64) -> String {
+    let (number, unit) = match number {
+        n if n >= 1e9 => (n / 1e9, " G"),
+        n if n >= 1e6 => (n / 1e6, " M"),
+        n if n >= 1e3 => (n / 1e3, " k"),
+        n => (n, ""),
+    };
+    let digits = match number {
+        n if n >= 100.0 => 0,
+        n if n >= 10.0 => 1,
+        _ => 2,
+    };
+    format!("{number:.digits$}{unit}")
+}
+
+/// The comparison of both sides, step by step.
+fn check(scenario: &Scenario) -> Result<(), String> {
+    let (mut one, mut two) = (scenario.ready::<Proved>(), scenario.ready::<Tuned>());
+    for pass in 1..=2 {
+        for (index, &step) in scenario.steps.iter().enumerate() {
+            let answers = (one.step::<Proved>(step), two.step::<Tuned>(step));
+            let what = if same_answer(step, answers.0, answers.1) {
+                different(&one, &two)
+            } else {
+                Some("answers")
+            };
+            if let Some(what) = what {
+                return Err(format!(
+                    "{}: pass {pass}, step {index}, {step:?}: the {what} differ ({answers:x?})",
+                    scenario.name
+                ));
+            }
+        }
+    }
+    Ok(())
+}
+
+/// A look that finds no byte may name any place.
+fn same_answer(step: Step, one: u64, two: u64) -> bool {
+    let empty = |look: u64| look & 65_535 == 0;
+    one == two || (matches!(step, Step::Look { .. }) && empty(one) && empty(two))
+}
+
+/// What was measured of one scenario; times in seconds.
+struct Row {
+    /// Calls of one pass.
+    calls: f64,
+    /// Bytes of one pass.
+    bytes: f64,
+    /// A pass of the proved store.
+    proved: f64,
+    /// A pass of the tuned store.
+    tuned: f64,
+    /// Proved over tuned.
+    to_tuned: f64,
+    /// Proved over the plain copy, where there is something to copy.
+    to_floor: Option<f64>,
+}
+
+impl Row {
+    fn bytes_per_second(&self) -> String {
+        if self.bytes == 0.0 {
+            return "-".to_owned();
+        }
+        scaled(self.bytes / self.proved)
+    }
+}
+
+fn time_scenario(scenario: &Scenario, effort: Effort) -> Result<Row, String> {
+    let copies = copies(scenario);
+    let mut proved = scenario.ready::<Proved>();
+    let mut tuned = scenario.ready::<Tuned>();
+    let from = vec![1; FILE_BYTES];
+    let mut to = vec![0; FILE_BYTES];
+    let times = measure(
+        &mut [
+            side::<Proved>(&mut proved, scenario),
+            side::<Tuned>(&mut tuned, scenario),
+            Box::new(|passes| plain_copies(&copies, &from, &mut to, passes)),
+        ],
+        effort,
+    );
+    if let Some(what) = different(&proved, &tuned) {
+        return Err(format!(
+            "{}: after the rounds the {what} differ",
+            scenario.name
+        ));
+    }
+    let bytes = copies.iter().sum::<usize>();
+    Ok(Row {
+        calls: scenario.calls() as f64,
+        bytes: bytes as f64,
+        proved: median(&times[0]),
+        tuned: median(&times[1]),
+        to_tuned: ratio(&times[0], &times[1]),
+        to_floor: (bytes > 0).then(|| ratio(&times[0], &times[2])),
+    })
+}
+
+fn side<'a, S: Store>(run: &'a mut Run, scenario: &'a Scenario) -> Side<'a> {
+    Box::new(|passes| run.passes::<S>(&scenario.steps, passes))
+}
+
+/// The copies of one pass, after a first pass.
+fn copies(scenario: &Scenario) -> Vec<usize> {
+    let mut run = scenario.ready::<Tuned>();
+    run.passes::<Tuned>(&scenario.steps, 1);
+    let copies = scenario.steps.iter();
+    copies.flat_map(|&step| run.copies::<Tuned>(step)).collect()
+}
+
+/// The floor: the copies, and nothing else.
+#[inline(never)]
+fn plain_copies(copies: &[usize], from: &[u8], to: &mut [u8], passes: usize) {
+    for _ in 0..passes {
+        for &length in copies {
+            let to = black_box(&mut to[..length]);
+            to.copy_from_slice(black_box(&from[..length]));
+        }
+        black_box(&mut *to);
+    }
+}
+
+const SERIAL: &[u8; 12] = b"SN-000042-A7";
+const ENTRIES: [[u8; 8]; 8] = [*b"00123456"; 8];
+/// Groups of eight entries until a file of the store is full.
+const GROUPS: usize = FILE_BYTES / 64;
+
+fn odometer(other: &mut dyn Other) {
+    for group in 0..GROUPS {
+        other.append(8 * group, &ENTRIES);
+    }
+    other.clear();
+}
+
+/// What is stored is there.
+fn check_other(name: &str, other: &mut dyn Other) -> Result<(), String> {
+    let require = |holds: bool, what: &str| {
+        if holds {
+            Ok(())
+        } else {
+            Err(format!("{name}: {what}"))
+        }
+    };
+    other.serial(&[b'-'; 12]);
+    other.serial(SERIAL);
+    require(other.stored_serial() == SERIAL, "the serial is another")?;
+    for group in 0..GROUPS {
+        other.append(8 * group, &ENTRIES);
+    }
+    require(other.entries() == 8 * GROUPS, "entries are missing")?;
+    other.clear();
+    require(other.entries() == 0, "entries are left")?;
+    odometer(other);
+    require(other.entries() == 0, "entries are left")?;
+    let bytes: [u8; FILE_BYTES] = std::array::from_fn(|i| (i / 7) as u8);
+    other.fill(&[9; FILE_BYTES]);
+    other.fill(&bytes);
+    let mut buffer = [0; FILE_BYTES];
+    other.read(&mut buffer);
+    require(buffer == bytes, "the file has other bytes")
+}
+
+/// The scenarios of the others: the start of the name, and one pass.
+type Pass = fn(&mut dyn Other);
+const OTHER_SCENARIOS: [(&str, Pass); 4] = [
+    ("serial", |other| {
+        for _ in 0..16 {
+            other.serial(black_box(SERIAL));
+        }
+    }),
+    ("odometer", odometer),
+    ("fill", |other| other.fill(black_box(&[7; FILE_BYTES]))),
+    ("read 4,096 bytes, none", |other| {
+        let mut buffer = [0; FILE_BYTES];
+        for _ in 0..16 {
+            other.read(black_box(&mut buffer));
+        }
+    }),
+];
+
+fn table_of_others(
+    proved: &[(&str, Row)],
+    others: &mut [Named],
+    effort: Effort,
+    out: &mut impl Write,
+) -> io::Result<()> {
+    for (name, _) in others.iter().filter(|(_, other)| other.is_none()) {
+        writeln!(out, "{name}: not installed, skipped\n")?;
+    }
+    writeln!(
+        out,
+        "| scenario | kept by | calls/s | bytes/s | time, over the proved store |"
+    )?;
+    writeln!(out, "|---|---|--:|--:|--:|")?;
+    for (start, pass) in OTHER_SCENARIOS {
+        let Some((name, row)) = proved.iter().find(|(name, _)| name.starts_with(start)) else {
+            continue;
+        };
+        writeln!(
+            out,
+            "| {name} | the proved store, in memory | {} | {} | 1 |",
+            scaled(row.calls / row.proved),
+            row.bytes_per_second(),
+        )?;
+        for (kept_by, other) in others.iter_mut() {
+            let Some(other) = other else {
+                continue;
+            };
+            let mut sides: [Side<'_>; 1] = [Box::new(|passes| {
+                for _ in 0..passes {
+                    pass(other.as_mut());
+                }
+            })];
+            let time = median(&measure(&mut sides, effort)[0]);
+            writeln!(
+                out,
+                "| | {kept_by} | {} | {} | {} |",
+                scaled(row.calls / time),
+                scaled(row.bytes / time),
+                scaled(time / row.proved),
+            )?;
+            out.flush()?;
+        }
+    }
+    writeln!(
+        out,
+        "\nThe others keep their files on a RAM disk (/dev/shm) and make system calls; the store makes none, and its media \
+         here are memory. So this compares what they cost beside the disk, and not the disk. A call is one of the store's, \
+         or what stands for it. LMDB has its usual settings, SQLite journal_mode=WAL and synchronous=FULL. pwrite with \
+         fdatasync is not safe against a torn write; the others are."
+    )
+}
+
+#[cfg(test)]
+mod tests {
+    use super::*;
+
+    #[test]
+    fn looks_that_find_no_byte_are_alike() {
+        let look = Step::Look {
+            file: 0,
+            position: 0,
+        };
+        assert!(same_answer(look, 5 << 32, 0));
+        assert!(!same_answer(look, 5 << 32 | 1, 6 << 32 | 1));
+        assert!(!same_answer(look, 5 << 32 | 1, 5 << 32));
+        assert!(!same_answer(Step::Mount, 5 << 32, 0));
+        assert!(same_answer(Step::Mount, 3, 3));
+    }
+
+    #[test]
+    fn numbers_have_three_digits() {
+        let numbers = [0.594, 12.34, 999.4, 1_234.0, 45_678.0, 3_456_789.0, 4.2e9];
+        let texts = numbers.map(scaled);
+        assert_eq!(
+            texts,
+            ["0.59", "12.3", "999", "1.23 k", "45.7 k", "3.46 M", "4.20 G"]
+        );
+    }
+}

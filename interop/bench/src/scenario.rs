@@ -1,0 +1,486 @@
+//! What is timed: lists of steps on one device, run over and over.
+
+use std::hint::black_box;
+
+use boxstore::{FILES, FILE_BYTES, MOUNT_WRITES, PAGE_BYTES, SLOTS, SYNC_WRITES};
+use random_calls::{Memory, Store};
+use random_sessions::rng::Rng;
+
+/// One step of a scenario.
+#[derive(Clone, Copy, Debug)]
+pub enum Step {
+    /// Format.
+    Format,
+    /// Mount.
+    Mount,
+    /// Read into the front of the buffer.
+    Read {
+        /// File number.
+        file: usize,
+        /// Position of the first byte.
+        position: usize,
+        /// Number of bytes.
+        length: usize,
+    },
+    /// Write bytes from the front of the source.
+    Write {
+        /// File number.
+        file: usize,
+        /// Position of the first byte.
+        position: usize,
+        /// Number of bytes.
+        length: usize,
+    },
+    /// Truncate.
+    Truncate {
+        /// File number.
+        file: usize,
+        /// The new size.
+        n: usize,
+    },
+    /// Sync.
+    Sync {
+        /// File number.
+        file: usize,
+        /// Media writes allowed.
+        budget: usize,
+    },
+    /// Look.
+    Look {
+        /// File number.
+        file: usize,
+        /// Position of the first byte.
+        position: usize,
+    },
+    /// Look count.
+    LookCount {
+        /// File number.
+        file: usize,
+        /// Position of the first byte.
+        position: usize,
+    },
+    /// No call: puts two pages past the stored size of file 3, as a sync that
+    /// was cut leaves them. 512 bytes are copied, on both sides alike.
+    LeaveTail,
+}
+
+/// A list of steps, with what the device is before the first of them.
+pub struct Scenario {
+    /// Its name in the tables.
+    pub name: &'static str,
+    /// The steps of one pass; they can be run again after the last.
+    pub steps: Vec<Step>,
+    /// Steps that make the device ready.
+    prepare: Vec<Step>,
+}
+
+impl Scenario {
+    /// The calls of one pass.
+    pub fn calls(&self) -> usize {
+        let no_call = |step: &&Step| matches!(step, Step::LeaveTail);
+        self.steps.len() - self.steps.iter().filter(no_call).count()
+    }
+
+    /// A device that is ready for the steps.
+    pub fn ready<S: Store>(&self) -> Run {
+        let mut run = Run::new();
+        for &step in &self.prepare {
+            run.step::<S>(step);
+        }
+        run
+    }
+}
+
+/// A device, with the buffers of the caller.
+#[derive(Clone)]
+pub struct Run {
+    /// The memory of the store.
+    pub memory: Memory,
+    /// Takes what is read.
+    pub buffer: Vec<u8>,
+    /// What is written.
+    source: Vec<u8>,
+}
+
+impl Run {
+    fn new() -> Run {
+        let mut rng = Rng::new(2);
+        Run {
+            memory: Memory::new(),
+            buffer: vec![0; FILE_BYTES],
+            // No byte is 0, so that a page which is lost shows.
+            source: (0..FILE_BYTES).map(|_| rng.between(1, 255) as u8).collect(),
+        }
+    }
+
+    /// Carries out one step and answers its word.
+    #[inline(always)]
+    pub fn step<S: Store>(&mut self, step: Step) -> u64 {
+        let Memory {
+            media,
+            sizes,
+            frames,
+            state,
+        } = &mut self.memory;
+        match step {
+            Step::Format => S::format(media, sizes, state, MOUNT_WRITES).into(),
+            Step::Mount => S::mount(media, sizes, state, MOUNT_WRITES).into(),
+            Step::Read {
+                file,
+                position,
+                length,
+            } => {
+                let buffer = &mut self.buffer[..length];
+                S::read(media, sizes, frames, state, file, position, buffer).into()
+            }
+            Step::Write {
+                file,
+                position,
+                length,
+            } => {
+                let bytes = &self.source[..length];
+                S::write(media, sizes, frames, state, file, position, bytes).into()
+            }
+            Step::Truncate { file, n } => S::truncate(media, sizes, frames, state, file, n).into(),
+            Step::Sync { file, budget } => {
+                S::sync(media, sizes, frames, state, file, budget).into()
+            }
+            Step::Look { file, position } => S::look(media, sizes, frames, state, file, position),
+            Step::LookCount { file, position } => {
+                S::look_count(media, sizes, frames, state, file, position).into()
+            }
+            Step::LeaveTail => {
+                let at = 3 * FILE_BYTES + PAGE_BYTES * (sizes[3] as usize).div_ceil(PAGE_BYTES);
+                media[at..at + 512].copy_from_slice(&self.source[..512]);
+                0
+            }
+        }
+    }
+
+    /// Carries out all steps, several times.
+    #[inline(never)]
+    pub fn passes<S: Store>(&mut self, steps: &[Step], passes: usize) {
+        for _ in 0..passes {
+            for &step in steps {
+                black_box(self.step::<S>(step));
+            }
+        }
+        black_box(&mut self.memory);
+        black_box(&mut self.buffer);
+    }
+
+    /// The lengths of the copies that the step moves bytes by, at the least:
+    ///
+    /// - read and write: the bytes between the caller and the store;
+    /// - sync: 256 for each page that is written to the media, and the bytes
+    ///   that a trim clears;
+    /// - mount: the bytes past the stored sizes, which it has to look at;
+    /// - format: all bytes of the media;
+    /// - truncate, look and look count: none.
+    ///
+    /// The bytes that fill a page when it becomes cached, and the cache state,
+    /// are not counted.
+    pub fn copies<S: Store>(&mut self, step: Step) -> Vec<usize> {
+        let before = self.memory.clone();
+        let answer = self.step::<S>(step);
+        let (number, count) = (answer >> 16, (answer & 65_535) as usize);
+        let mut copies = Vec::new();
+        match step {
+            Step::Read { .. } | Step::Write { .. } if number == 0 && count > 0 => {
+                copies.push(count);
+            }
+            Step::Sync { file, .. } if number == 0 || number == 9 => {
+                let floor = number_at(&before.state, 105 + 4 * file);
+                let mut left = count;
+                if floor < before.sizes[file] as usize && left > 0 {
+                    copies.push(FILE_BYTES - floor);
+                    left -= 1;
+                }
+                let pages = (0..SLOTS)
+                    .filter(|slot| {
+                        before.state[1 + 3 * slot] == 1
+                            && usize::from(before.state[2 + 3 * slot]) == file
+                    })
+                    .count();
+                copies.extend(std::iter::repeat_n(PAGE_BYTES, pages.min(left)));
+            }
+            Step::Mount => {
+                for size in before.sizes {
+                    copies.push(FILE_BYTES - size as usize);
+                }
+            }
+            Step::Format => copies.extend([FILE_BYTES; FILES]),
+            _ => {}
+        }
+        copies
+    }
+}
+
+fn number_at(state: &[u8], at: usize) -> usize {
+    let bytes = [0, 1, 2, 3].map(|i| state[at + i]);
+    u32::from_le_bytes(bytes) as usize
+}
+
+/// What differs between two devices, if something does. The bytes of free
+/// slots may.
+pub fn different(one: &Run, two: &Run) -> Option<&'static str> {
+    let (a, b) = (&one.memory, &two.memory);
+    let frame = |slot: usize| PAGE_BYTES * slot..PAGE_BYTES * (slot + 1);
+    if one.buffer != two.buffer {
+        Some("buffers of reads")
+    } else if a.media != b.media {
+        Some("media")
+    } else if a.sizes != b.sizes {
+        Some("stored sizes")
+    } else if a.state != b.state {
+        Some("cache states")
+    } else if (0..SLOTS)
+        .any(|slot| a.state[1 + 3 * slot] == 1 && a.frames[frame(slot)] != b.frames[frame(slot)])
+    {
+        Some("frames")
+    } else {
+        None
+    }
+}
+
+const START: [Step; 2] = [Step::Format, Step::Mount];
+
+const fn sync(file: usize) -> Step {
+    Step::Sync {
+        file,
+        budget: SYNC_WRITES,
+    }
+}
+
+const fn write(file: usize, position: usize, length: usize) -> Step {
+    Step::Write {
+        file,
+        position,
+        length,
+    }
+}
+
+const fn read(file: usize, position: usize, length: usize) -> Step {
+    Step::Read {
+        file,
+        position,
+        length,
+    }
+}
+
+/// Steps after the start of a device.
+fn started(steps: &[Step]) -> Vec<Step> {
+    [&START, steps].concat()
+}
+
+/// All scenarios, in the order of the table.
+pub fn all() -> Vec<Scenario> {
+    vec![
+        Scenario {
+            name: "serial: write 12 bytes, sync",
+            prepare: started(&[]),
+            steps: [write(0, 0, 12), sync(0)].repeat(16),
+        },
+        Scenario {
+            name: "odometer: append 8 bytes, sync each eighth",
+            prepare: started(&[]),
+            steps: odometer(),
+        },
+        Scenario {
+            name: "fill: write 16 pages, sync",
+            prepare: started(&[]),
+            steps: fill(),
+        },
+        Scenario {
+            name: "read 4,096 bytes, none cached",
+            prepare: started(&[write(1, 0, FILE_BYTES), sync(1)]),
+            steps: vec![read(1, 0, FILE_BYTES); 16],
+        },
+        Scenario {
+            name: "read 4,096 bytes, all cached",
+            prepare: started(&[write(1, 0, FILE_BYTES)]),
+            steps: vec![read(1, 0, FILE_BYTES); 16],
+        },
+        Scenario {
+            name: "mount after a cut",
+            prepare: mount_prepare(),
+            steps: [Step::LeaveTail, Step::Mount].repeat(4),
+        },
+        Scenario {
+            name: "mixed session",
+            prepare: Vec::new(),
+            steps: mixed(),
+        },
+        Scenario {
+            name: "empty read, no page cached",
+            prepare: started(&[]),
+            steps: vec![read(1, 0, 0); 16],
+        },
+        Scenario {
+            name: "empty read, 24 pages cached",
+            prepare: started(&[write(1, 0, FILE_BYTES), write(2, 0, FILE_BYTES)]),
+            steps: vec![read(1, 0, 0); 16],
+        },
+    ]
+}
+
+/// Appends until file 1 is full, then begins anew.
+fn odometer() -> Vec<Step> {
+    let mut steps = Vec::new();
+    for entry in 0..FILE_BYTES / 8 {
+        steps.push(write(1, 8 * entry, 8));
+        if entry % 8 == 7 {
+            steps.push(sync(1));
+        }
+    }
+    steps.push(Step::Truncate { file: 1, n: 0 });
+    steps.push(sync(1));
+    steps
+}
+
+fn fill() -> Vec<Step> {
+    let mut steps: Vec<Step> = (0..FILE_BYTES / PAGE_BYTES)
+        .map(|page| write(2, PAGE_BYTES * page, PAGE_BYTES))
+        .collect();
+    steps.push(sync(2));
+    steps
+}
+
+/// Files of 0 to 3,500 bytes.
+fn mount_prepare() -> Vec<Step> {
+    let mut steps = started(&[]);
+    for file in 0..FILES {
+        steps.push(write(file, 0, 500 * file));
+        steps.push(sync(file));
+    }
+    steps
+}
+
+/// The length of the mixed session.
+const MIXED: usize = 4_000;
+
+/// A session of calls of all kinds, which begins with a format: three quarters
+/// are small reads, writes and looks near each other, as a firmware makes them.
+fn mixed() -> Vec<Step> {
+    let mut rng = Rng::new(5);
+    let mut steps = START.to_vec();
+    while steps.len() < MIXED {
+        let file = rng.below(FILES);
+        let position = rng.below(FILE_BYTES);
+        let small = rng.between(1, 64).min(FILE_BYTES - position);
+        let large = rng.between(1, 1_500).min(FILE_BYTES - position);
+        let step = match rng.weighted(&[30, 8, 30, 6, 8, 20, 6, 4, 1]) {
+            0 => read(file, position, small),
+            1 => read(file, 0, FILE_BYTES),
+            2 => write(file, position, small),
+            3 => write(file, position, large),
+            4 => Step::Truncate { file, n: position },
+            5 => sync(file),
+            6 => Step::Look { file, position },
+            7 => Step::LookCount { file, position },
+            _ => {
+                // the power goes during a sync
+                let budget = rng.below(3);
+                steps.push(Step::Sync { file, budget });
+                Step::Mount
+            }
+        };
+        steps.push(step);
+    }
+    steps
+}
+
+#[cfg(test)]
+mod tests {
+    use random_calls::Reference;
+
+    use super::*;
+
+    fn copies(name: &str) -> Vec<usize> {
+        let scenarios = all();
+        let scenario = scenarios
+            .iter()
+            .find(|scenario| scenario.name.starts_with(name))
+            .expect("there is one");
+        let mut run = scenario.ready::<Reference>();
+        run.passes::<Reference>(&scenario.steps, 1);
+        let steps = scenario.steps.iter();
+        steps
+            .flat_map(|&step| run.copies::<Reference>(step))
+            .collect()
+    }
+
+    #[test]
+    fn bytes_that_are_moved() {
+        assert_eq!(copies("serial"), [12, 256].repeat(16));
+        assert_eq!(copies("fill"), [256; 32]);
+        assert_eq!(copies("read 4,096 bytes, none"), [4_096; 16]);
+        assert_eq!(copies("read 4,096 bytes, all"), [4_096; 16]);
+        assert_eq!(copies("empty read"), []);
+
+        // 512 entries, 64 pages, and the trim of the full file
+        let odometer = copies("odometer");
+        assert_eq!(odometer.len(), 512 + 64 + 1);
+        assert_eq!(odometer.iter().sum::<usize>(), 512 * 8 + 64 * 256 + 4_096);
+
+        // all that is past the stored sizes 0, 500, .. 3,500
+        let mount = copies("mount");
+        assert_eq!(mount.iter().sum::<usize>(), 4 * (32_768 - 500 * 28));
+    }
+
+    #[test]
+    fn a_mount_after_a_cut_has_one_file_to_trim() {
+        let scenarios = all();
+        let scenario = &scenarios[5];
+        let mut run = scenario.ready::<Reference>();
+        for _ in 0..2 {
+            assert_eq!(run.step::<Reference>(Step::Mount), 0);
+            run.step::<Reference>(Step::LeaveTail);
+            assert_eq!(run.step::<Reference>(Step::Mount), 1);
+        }
+        assert_eq!(scenario.calls(), 4);
+    }
+
+    #[test]
+    fn the_mixed_session_has_all_calls_and_answers() {
+        let scenarios = all();
+        let scenario = &scenarios[6];
+        let mut run = scenario.ready::<Reference>();
+        let mut answers = [0; 10];
+        let mut looks = 0;
+        for &step in &scenario.steps {
+            let answer = run.step::<Reference>(step);
+            if let Step::Look { .. } = step {
+                looks += usize::from(answer != 0);
+            } else {
+                answers[(answer >> 16) as usize] += 1;
+            }
+        }
+        assert!(answers[0] > 3_000, "{answers:?}");
+        assert!(answers[8] > 0 && answers[9] > 0, "{answers:?}");
+        assert!(looks > 0);
+    }
+
+    #[test]
+    fn differences_are_seen() {
+        let scenarios = all();
+        let mut one = scenarios[4].ready::<Reference>();
+        assert_eq!(different(&one, &one.clone()), None);
+        type Alter = fn(&mut Run);
+        let alter: [(Alter, &str); 5] = [
+            (|run| run.buffer[9] ^= 1, "buffers of reads"),
+            (|run| run.memory.media[9] ^= 1, "media"),
+            (|run| run.memory.sizes[1] ^= 1, "stored sizes"),
+            (|run| run.memory.state[73] ^= 1, "cache states"),
+            (|run| run.memory.frames[9] ^= 1, "frames"),
+        ];
+        for (alter, what) in alter {
+            let mut two = one.clone();
+            alter(&mut two);
+            assert_eq!(different(&one, &two), Some(what));
+        }
+        // the last slot is free
+        one.memory.frames[6_143] ^= 1;
+        assert_eq!(different(&one, &scenarios[4].ready::<Reference>()), None);
+    }
+}

@@ -1,0 +1,107 @@
+//! Rounds of several sides by turns.
+
+use std::time::{Duration, Instant};
+
+/// How long a measurement takes.
+#[derive(Clone, Copy, Debug)]
+pub struct Effort {
+    /// Rounds of each side.
+    pub rounds: usize,
+    /// The time of one side in one round.
+    pub round: Duration,
+}
+
+/// A side: carries out a number of passes.
+pub type Side<'a> = Box<dyn FnMut(usize) + 'a>;
+
+/// The seconds of one pass, of each side in each round. All sides take their
+/// turn in every round, and the first to go changes from round to round.
+pub fn measure(sides: &mut [Side<'_>], effort: Effort) -> Vec<Vec<f64>> {
+    let passes: Vec<usize> = sides
+        .iter_mut()
+        .map(|side| passes(side, effort.round))
+        .collect();
+    let mut times = vec![Vec::with_capacity(effort.rounds); sides.len()];
+    for round in 0..effort.rounds {
+        for turn in 0..sides.len() {
+            let index = (round + turn) % sides.len();
+            times[index].push(time(&mut sides[index], passes[index]) / passes[index] as f64);
+        }
+    }
+    times
+}
+
+fn time(side: &mut Side<'_>, passes: usize) -> f64 {
+    let start = Instant::now();
+    side(passes);
+    start.elapsed().as_secs_f64()
+}
+
+/// More passes than this are not made, however little they take.
+const MOST: usize = 1 << 28;
+
+/// The passes that take about this long.
+fn passes(side: &mut Side<'_>, round: Duration) -> usize {
+    let wanted = round.as_secs_f64();
+    let mut passes = 1;
+    loop {
+        let taken = time(side, passes);
+        if taken >= wanted / 4.0 || passes == MOST {
+            return ((passes as f64 * wanted / taken) as usize).clamp(1, MOST);
+        }
+        passes *= 2;
+    }
+}
+
+/// The middle value.
+pub fn median(values: &[f64]) -> f64 {
+    let mut values = values.to_vec();
+    values.sort_by(f64::total_cmp);
+    let middle = values.len() / 2;
+    if values.len() % 2 == 1 {
+        values[middle]
+    } else {
+        (values[middle - 1] + values[middle]) / 2.0
+    }
+}
+
+/// The median of the quotients, round by round.
+pub fn ratio(over: &[f64], under: &[f64]) -> f64 {
+    let quotients: Vec<f64> = over.iter().zip(under).map(|(a, b)| a / b).collect();
+    median(&quotients)
+}
+
+#[cfg(test)]
+mod tests {
+    use super::*;
+
+    #[test]
+    fn medians() {
+        assert_eq!(median(&[3.0, 1.0, 2.0]), 2.0);
+        assert_eq!(median(&[4.0, 1.0, 2.0, 9.0]), 3.0);
+        assert_eq!(ratio(&[2.0, 9.0, 8.0], &[1.0, 3.0, 2.0]), 3.0);
+    }
+
+    #[test]
+    fn every_side_has_every_round() {
+        let (mut first, mut second) = (0, 0);
+        let effort = Effort {
+            rounds: 4,
+            round: Duration::from_micros(50),
+        };
+        let times = measure(
+            &mut [
+                Box::new(|passes| first += passes),
+                Box::new(|passes| {
+                    second += passes;
+                    std::thread::sleep(Duration::from_micros(100));
+                }),
+            ],
+            effort,
+        );
+        assert_eq!(times.iter().map(Vec::len).collect::<Vec<_>>(), [4, 4]);
+        // the first takes no time
+        assert!(first > MOST && second > 4);
+        assert!(times[1].iter().all(|&time| time > 1e-6));
+    }
+}

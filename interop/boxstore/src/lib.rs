@@ -1,0 +1,65 @@
+//! Eight small files on one media part, in a box whose power can go at any
+//! moment.
+//!
+//! The store is the proved one: this crate links its archive, `libboxstore.a`,
+//! and adds Rust types around it. A [`Device`] owns the memory of one store;
+//! [`raw`] has the calls over memory of the caller's own.
+//!
+//! A file is 0 to 4,096 bytes. A write goes into a cache of 24 pages of 256
+//! bytes, and a [sync](Device::sync) brings a file to the media. After a loss
+//! of power a [mount](Device::mount) finds each file as its last sync left it,
+//! or as a sync or the writes since then explain it: never a byte that nobody
+//! wrote.
+//!
+//! ```
+//! use boxstore::{Device, MOUNT_WRITES, SYNC_WRITES};
+//!
+//! # fn main() -> Result<(), boxstore::Error> {
+//! let mut device = Device::new();
+//! device.format(MOUNT_WRITES)?;
+//! device.mount(MOUNT_WRITES)?;
+//! device.write(0, 0, b"SN-000042-A7")?;
+//! device.sync(0, SYNC_WRITES)?;
+//! device.cut_power();
+//! device.mount(MOUNT_WRITES)?;
+//! let mut serial = [0; 12];
+//! assert_eq!(device.read(0, 0, &mut serial)?, 12);
+//! assert_eq!(&serial, b"SN-000042-A7");
+//! # Ok(())
+//! # }
+//! ```
+//!
+//! # Budgets
+//!
+//! Sync, mount and format are told how many media writes the hold-up capacitor
+//! still pays for. Where they need more they do that many and answer
+//! [`Error::Cut`]: the device is then down, as if the power had gone at that
+//! moment. [`SYNC_WRITES`] and [`MOUNT_WRITES`] are never cut.
+
+mod device;
+mod error;
+pub mod raw;
+
+pub use device::Device;
+pub use error::Error;
+
+/// Number of files; they are numbered from 0.
+pub const FILES: usize = 8;
+/// Bytes in a page.
+pub const PAGE_BYTES: usize = 256;
+/// Greatest size of a file.
+pub const FILE_BYTES: usize = 4_096;
+/// Pages that the cache holds, over all files together.
+pub const SLOTS: usize = 24;
+/// Bytes of the media.
+pub const MEDIA_BYTES: usize = FILES * FILE_BYTES;
+/// Bytes of the frames, which hold the cached pages.
+pub const FRAMES_BYTES: usize = SLOTS * PAGE_BYTES;
+/// Bytes of the cache state.
+pub const STATE_BYTES: usize = 137;
+
+/// The most media writes that a sync needs: a budget that is never cut.
+pub const SYNC_WRITES: usize = 18;
+/// The most media writes that a mount or a format needs: a budget that is
+/// never cut.
+pub const MOUNT_WRITES: usize = 8;

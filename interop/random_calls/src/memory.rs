@@ -1,0 +1,192 @@
+//! Random memory for calls.
+
+use random_sessions::rng::Rng;
+use reference::store::{CacheState, Slot, FILES, FILE_MAX, FRAMES_LEN, MEDIA_LEN, PAGES, SLOTS};
+
+use crate::reference_store::{encode, STATE_LEN};
+
+/// What a call of the store works on.
+#[derive(Clone, Debug, PartialEq, Eq)]
+pub struct Memory {
+    /// The bytes of the media.
+    pub media: Vec<u8>,
+    /// The stored sizes.
+    pub sizes: Vec<u32>,
+    /// The bytes of the cached pages.
+    pub frames: Vec<u8>,
+    /// The cache state.
+    pub state: Vec<u8>,
+}
+
+impl Memory {
+    /// Media all 0, down.
+    pub fn new() -> Memory {
+        Memory {
+            media: vec![0; MEDIA_LEN],
+            sizes: vec![0; FILES],
+            frames: vec![0; FRAMES_LEN],
+            state: vec![0; STATE_LEN],
+        }
+    }
+
+    /// Random memory: about half of the states are sound and up.
+    pub fn random(rng: &mut Rng) -> Memory {
+        let mut memory = Memory::sound(rng);
+        match rng.weighted(&[10, 1, 4, 2, 2, 2]) {
+            0 => {}
+            1 => memory.state.fill(0),
+            2 => memory.spoil_state(rng),
+            3 => memory.spoil_sizes(rng),
+            4 => memory.random_state(rng),
+            _ => memory.spoil_length(rng),
+        }
+        memory
+    }
+
+    /// Memory with a sound state that is up.
+    fn sound(rng: &mut Rng) -> Memory {
+        let mut memory = Memory::new();
+        let mut state = CacheState {
+            mounted: 1,
+            ..CacheState::DOWN
+        };
+        fill(rng, &mut memory.frames);
+        for file in 0..FILES {
+            let stored = size(rng, FILE_MAX);
+            let floor = if rng.chance(60) {
+                stored
+            } else {
+                size(rng, stored)
+            };
+            let logical = if rng.chance(60) {
+                floor
+            } else {
+                floor + size(rng, FILE_MAX - floor)
+            };
+            memory.sizes[file] = stored as u32;
+            state.floor[file] = floor;
+            state.logical[file] = logical;
+
+            let bytes = &mut memory.media[file * FILE_MAX..(file + 1) * FILE_MAX];
+            match rng.below(4) {
+                // bytes past the stored size, as a sync that was cut leaves
+                0 => fill(rng, bytes),
+                // a single one
+                1 if stored < FILE_MAX => {
+                    fill(rng, &mut bytes[..stored]);
+                    bytes[rng.between(stored, FILE_MAX - 1)] = 1;
+                }
+                2 => {}
+                _ => fill(rng, &mut bytes[..stored]),
+            }
+        }
+        let used = match rng.below(4) {
+            0 => 0,
+            1 => SLOTS,
+            2 => rng.below(4),
+            _ => rng.below(SLOTS + 1),
+        };
+        // few files, so that they have several pages cached
+        let files = rng.between(2, FILES);
+        let spread = rng.chance(50);
+        let mut taken = 0;
+        while taken < used {
+            let (file, page) = (rng.below(files), rng.below(PAGES));
+            let slot = if spread { rng.below(SLOTS) } else { taken };
+            if !state.slots[slot].used && state.slot_of(file, page).is_none() {
+                state.slots[slot] = Slot {
+                    used: true,
+                    file,
+                    page,
+                };
+                taken += 1;
+            }
+        }
+        encode(&state, &mut memory.state);
+        memory
+    }
+
+    /// Alters the state in one place, so that it is mostly no longer sound.
+    fn spoil_state(&mut self, rng: &mut Rng) {
+        let slot = 1 + 3 * rng.below(SLOTS);
+        let file = rng.below(FILES);
+        match rng.below(6) {
+            0 => self.state[0] = rng.pick(&[0, 2, 3, 128, 255]),
+            1 => {
+                let other = 1 + 3 * rng.below(SLOTS);
+                self.state.copy_within(other..other + 3, slot);
+            }
+            2 => self.state[slot + rng.below(3)] = rng.pick(&[0, 1, 2, 7, 8, 15, 16, 128, 255]),
+            3 => {
+                let value = rng.pick(&[0, 1, 4_096, 4_097, 8_192, 1 << 31, u32::MAX]);
+                let at = 73 + 32 * rng.below(2) + 4 * file;
+                self.state[at..at + 4].copy_from_slice(&value.to_le_bytes());
+            }
+            4 => {
+                let at = rng.below(STATE_LEN);
+                self.state[at] ^= 1 << rng.below(8);
+            }
+            // down, but for one byte
+            _ => {
+                let at = rng.below(STATE_LEN);
+                self.state.fill(0);
+                self.state[at] = rng.pick(&[0, 1, 255]);
+            }
+        }
+    }
+
+    /// Alters a stored size.
+    fn spoil_sizes(&mut self, rng: &mut Rng) {
+        let value = rng.pick(&[0, 1, 4_095, 4_096, 4_097, 65_536, 1 << 31, u32::MAX]);
+        self.sizes[rng.below(FILES)] = value;
+    }
+
+    fn random_state(&mut self, rng: &mut Rng) {
+        let greatest = rng.pick(&[1, 2, 16, 255]);
+        for byte in &mut self.state {
+            *byte = rng.between(0, greatest) as u8;
+        }
+        if rng.chance(70) {
+            self.state[0] = 1;
+        }
+    }
+
+    /// Gives one of the four another length.
+    fn spoil_length(&mut self, rng: &mut Rng) {
+        match rng.below(4) {
+            0 => self.media.resize(other_length(rng, MEDIA_LEN), 1),
+            1 => self.sizes.resize(other_length(rng, FILES), 1),
+            2 => self.frames.resize(other_length(rng, FRAMES_LEN), 1),
+            _ => self.state.resize(other_length(rng, STATE_LEN), 0),
+        }
+    }
+}
+
+impl Default for Memory {
+    fn default() -> Memory {
+        Memory::new()
+    }
+}
+
+fn other_length(rng: &mut Rng, length: usize) -> usize {
+    rng.pick(&[0, 1, length - 1, length + 1, 2 * length])
+}
+
+/// A size up to `limit`, often at a limit or at the border of a page.
+fn size(rng: &mut Rng, limit: usize) -> usize {
+    match rng.below(6) {
+        0 => 0,
+        1 => limit,
+        2 => (rng.below(17) * 256).min(limit),
+        3 => (rng.below(17) * 256 + 1).min(limit),
+        _ => rng.between(0, limit),
+    }
+}
+
+/// Fills a slice with random bytes.
+pub fn fill(rng: &mut Rng, bytes: &mut [u8]) {
+    for chunk in bytes.chunks_mut(8) {
+        let random = rng.next_u64().to_le_bytes();
+        chunk.copy_from_slice(&random[..chunk.len()]);
+    }
+}

@@ -1,0 +1,478 @@
+//! The store of document 01 once more, written for speed: the yardstick of the
+//! benchmark. The calls have the signatures of `boxstore::raw`, and the same
+//! result on every input.
+//!
+//! The cache state is worked on in place, in its 137 bytes. Nothing is
+//! allocated, and a byte is moved only where the call's result needs it moved.
+//! No function is inlined into its caller, as those of a linked archive are
+//! not.
+
+mod state;
+
+use state::{number, put_number, Slots, FLOOR, LOGICAL, SLOT};
+
+const FILES: usize = 8;
+const PAGE: usize = 256;
+const PAGES: usize = 16;
+const FILE: usize = PAGE * PAGES;
+const SLOTS: usize = 24;
+const MEDIA: usize = FILES * FILE;
+const FRAMES: usize = SLOTS * PAGE;
+const STATE: usize = 137;
+
+const SHAPE: u32 = 2 << 16;
+const MEDIA_REFUSED: u32 = 3 << 16;
+const BOOKS: u32 = 4 << 16;
+const DOWN: u32 = 5 << 16;
+const NO_FILE: u32 = 6 << 16;
+const RANGE: u32 = 7 << 16;
+const NO_ROOM: u32 = 8 << 16;
+const CUT: u32 = 9 << 16;
+
+/// The tests of a call on a mounted device, SHAPE to NO FILE. Finds the slots of
+/// the pages in passing.
+#[inline(always)]
+fn admit(
+    media: &[u8],
+    sizes: &[u32],
+    frames: &[u8],
+    state: &[u8],
+    file: usize,
+    slots: &mut Slots,
+) -> Result<(), u32> {
+    let (Ok(sizes), Ok(state)) = (
+        <&[u32; FILES]>::try_from(sizes),
+        <&[u8; STATE]>::try_from(state),
+    ) else {
+        return Err(SHAPE);
+    };
+    if media.len() != MEDIA || frames.len() != FRAMES {
+        return Err(SHAPE);
+    }
+    // One pass over the sizes for MEDIA and for BOOKS.
+    let order = state::sizes_in_order(sizes, state);
+    if !order.stored {
+        return Err(MEDIA_REFUSED);
+    }
+    if !order.cached || !slots.find(state) {
+        return Err(BOOKS);
+    }
+    match state[0] {
+        1 => {}
+        0 if state::is_down(state) => return Err(DOWN),
+        _ => return Err(BOOKS),
+    }
+    if file >= FILES {
+        return Err(NO_FILE);
+    }
+    Ok(())
+}
+
+/// Makes the state the down state.
+#[inline(never)]
+pub fn down(state: &mut [u8]) -> u32 {
+    if state.len() != STATE {
+        return SHAPE;
+    }
+    state.fill(0);
+    0
+}
+
+/// Copies current bytes into the front of the buffer.
+#[inline(never)]
+pub fn read(
+    media: &[u8],
+    sizes: &[u32],
+    frames: &[u8],
+    state: &[u8],
+    file: usize,
+    position: usize,
+    buffer: &mut [u8],
+) -> u32 {
+    let mut slots = Slots::none();
+    if let Err(refused) = admit(media, sizes, frames, state, file, &mut slots) {
+        return refused;
+    }
+    if position > FILE {
+        return RANGE;
+    }
+    let logical = number(state, LOGICAL + 4 * file);
+    let end = position + buffer.len().min(logical.saturating_sub(position));
+    let count = end - position;
+    if count == 0 {
+        return 0;
+    }
+    let floor = number(state, FLOOR + 4 * file);
+    let buffer = &mut buffer[..count];
+    let bytes = &media[file * FILE..(file + 1) * FILE];
+    let mut at = position;
+    while at < end {
+        let mut page = at / PAGE;
+        let stop;
+        if let Some(slot) = slots.get(file, page) {
+            stop = (PAGE * (page + 1)).min(end);
+            let start = PAGE * slot + at % PAGE;
+            buffer[at - position..stop - position]
+                .copy_from_slice(&frames[start..start + (stop - at)]);
+        } else {
+            // pages that are not cached, in one piece
+            page += 1;
+            while PAGE * page < end && slots.get(file, page).is_none() {
+                page += 1;
+            }
+            stop = (PAGE * page).min(end);
+            copy_stored(
+                bytes,
+                floor,
+                at,
+                &mut buffer[at - position..stop - position],
+            );
+        }
+        at = stop;
+    }
+    count as u32
+}
+
+/// Copies bytes of a file that are not cached: the media's below the floor,
+/// zeros from there on.
+#[inline(always)]
+fn copy_stored(file: &[u8], floor: usize, position: usize, buffer: &mut [u8]) {
+    let stored = floor.saturating_sub(position).min(buffer.len());
+    let (front, rest) = buffer.split_at_mut(stored);
+    front.copy_from_slice(&file[position..position + stored]);
+    rest.fill(0);
+}
+
+/// Puts bytes into cached pages.
+#[inline(never)]
+pub fn write(
+    media: &[u8],
+    sizes: &[u32],
+    frames: &mut [u8],
+    state: &mut [u8],
+    file: usize,
+    position: usize,
+    bytes: &[u8],
+) -> u32 {
+    let mut slots = Slots::none();
+    if let Err(refused) = admit(media, sizes, frames, state, file, &mut slots) {
+        return refused;
+    }
+    if bytes.len() > FILE || position > FILE - bytes.len() {
+        return RANGE;
+    }
+    if bytes.is_empty() {
+        return 0;
+    }
+    let stored = &media[file * FILE..(file + 1) * FILE];
+    let floor = number(state, FLOOR + 4 * file);
+    let end = position + bytes.len();
+    let mut free = 0;
+    let mut at = position;
+    while at < end {
+        let page = at / PAGE;
+        let start = PAGE * page;
+        let stop = (start + PAGE).min(end);
+        let slot = if let Some(slot) = slots.get(file, page) {
+            slot
+        } else {
+            while free < SLOTS && state[SLOT + 3 * free] == 1 {
+                free += 1;
+            }
+            if free == SLOTS {
+                break;
+            }
+            // The bytes that this write does not replace.
+            let frame = &mut frames[PAGE * free..PAGE * (free + 1)];
+            copy_stored(stored, floor, start, &mut frame[..at - start]);
+            copy_stored(stored, floor, stop, &mut frame[stop - start..]);
+            state[SLOT + 3 * free..SLOT + 3 * free + 3]
+                .copy_from_slice(&[1, file as u8, page as u8]);
+            free
+        };
+        let from = PAGE * slot + (at - start);
+        frames[from..from + (stop - at)].copy_from_slice(&bytes[at - position..stop - position]);
+        at = stop;
+    }
+    if at == position {
+        return NO_ROOM;
+    }
+    let logical = number(state, LOGICAL + 4 * file);
+    put_number(state, LOGICAL + 4 * file, logical.max(at));
+    (at - position) as u32
+}
+
+/// Gives a file `n` bytes.
+#[inline(never)]
+pub fn truncate(
+    media: &[u8],
+    sizes: &[u32],
+    frames: &mut [u8],
+    state: &mut [u8],
+    file: usize,
+    n: usize,
+) -> u32 {
+    let mut slots = Slots::none();
+    if let Err(refused) = admit(media, sizes, frames, state, file, &mut slots) {
+        return refused;
+    }
+    if n > FILE {
+        return RANGE;
+    }
+    let floor = number(state, FLOOR + 4 * file);
+    put_number(state, FLOOR + 4 * file, floor.min(n));
+    put_number(state, LOGICAL + 4 * file, n);
+    for page in n / PAGE..PAGES {
+        let Some(slot) = slots.get(file, page) else {
+            continue;
+        };
+        if PAGE * page < n {
+            frames[PAGE * slot + n % PAGE..PAGE * (slot + 1)].fill(0);
+        } else {
+            free_slot(state, slot);
+        }
+    }
+    0
+}
+
+#[inline(always)]
+fn free_slot(state: &mut [u8], slot: usize) {
+    state[SLOT + 3 * slot..SLOT + 3 * slot + 3].fill(0);
+}
+
+/// Stores a file. Each media write is carried out whole, in its order.
+#[inline(never)]
+pub fn sync(
+    media: &mut [u8],
+    sizes: &mut [u32],
+    frames: &[u8],
+    state: &mut [u8],
+    file: usize,
+    budget: usize,
+) -> u32 {
+    let mut slots = Slots::none();
+    if let Err(refused) = admit(media, sizes, frames, state, file, &mut slots) {
+        return refused;
+    }
+    let logical = number(state, LOGICAL + 4 * file);
+    let floor = number(state, FLOOR + 4 * file);
+    let mut done = 0;
+    let cut = |state: &mut [u8]| {
+        state.fill(0);
+        CUT + budget as u32
+    };
+
+    let bytes = &mut media[file * FILE..(file + 1) * FILE];
+    if floor < sizes[file] as usize {
+        if done == budget {
+            return cut(state);
+        }
+        bytes[floor..].fill(0);
+        sizes[file] = floor as u32;
+        done += 1;
+    }
+    for (page, bytes) in bytes.chunks_exact_mut(PAGE).enumerate() {
+        let Some(slot) = slots.get(file, page) else {
+            continue;
+        };
+        if done == budget {
+            return cut(state);
+        }
+        bytes.copy_from_slice(&frames[PAGE * slot..PAGE * (slot + 1)]);
+        free_slot(state, slot);
+        done += 1;
+    }
+    if logical != floor {
+        if done == budget {
+            return cut(state);
+        }
+        sizes[file] = logical as u32;
+        put_number(state, FLOOR + 4 * file, logical);
+        done += 1;
+    }
+    done as u32
+}
+
+/// The bytes from a position to the end of its page or of the file.
+#[inline(always)]
+fn count_in_page(state: &[u8], file: usize, position: usize) -> usize {
+    let logical = number(state, LOGICAL + 4 * file);
+    (PAGE * (position / PAGE + 1))
+        .min(logical)
+        .saturating_sub(position)
+}
+
+/// Counts the bytes up to the end of a page or of the file.
+#[inline(never)]
+pub fn look_count(
+    media: &[u8],
+    sizes: &[u32],
+    frames: &[u8],
+    state: &[u8],
+    file: usize,
+    position: usize,
+) -> u32 {
+    if let Err(refused) = admit(media, sizes, frames, state, file, &mut Slots::none()) {
+        return refused;
+    }
+    if position > FILE {
+        return RANGE;
+    }
+    count_in_page(state, file, position) as u32
+}
+
+/// Tells where the bytes up to the end of a page lie.
+#[inline(never)]
+pub fn look(
+    media: &[u8],
+    sizes: &[u32],
+    frames: &[u8],
+    state: &[u8],
+    file: usize,
+    position: usize,
+) -> u64 {
+    let mut slots = Slots::none();
+    if admit(media, sizes, frames, state, file, &mut slots).is_err() {
+        return 0;
+    }
+    if position > FILE {
+        return 0;
+    }
+    let count = count_in_page(state, file, position);
+    if count == 0 {
+        return 0;
+    }
+    let page = position / PAGE;
+    let (offset, source, count) = if let Some(slot) = slots.get(file, page) {
+        (PAGE * slot + position % PAGE, 1, count)
+    } else {
+        let floor = number(state, FLOOR + 4 * file);
+        let count = count.min(floor.saturating_sub(position));
+        if count == 0 {
+            return 0;
+        }
+        (FILE * file + position, 0, count)
+    };
+    (offset as u64) << 32 | source << 16 | count as u64
+}
+
+/// Whether all bytes are 0.
+#[inline(always)]
+fn all_zero(bytes: &[u8]) -> bool {
+    let zero = |bytes: &[u8]| bytes.iter().fold(0, |all, byte| all | byte) == 0;
+    let chunks = bytes.chunks_exact(512);
+    zero(chunks.remainder()) && chunks.into_iter().all(zero)
+}
+
+/// Brings the device up.
+#[inline(never)]
+pub fn mount(media: &mut [u8], sizes: &mut [u32], state: &mut [u8], budget: usize) -> u32 {
+    if media.len() != MEDIA || sizes.len() != FILES || state.len() != STATE {
+        return SHAPE;
+    }
+    if sizes.iter().any(|&size| size as usize > FILE) {
+        return MEDIA_REFUSED;
+    }
+    let mut trims = 0;
+    for (bytes, &size) in media.chunks_exact_mut(FILE).zip(sizes.iter()) {
+        let past = &mut bytes[size as usize..];
+        if all_zero(past) {
+            continue;
+        }
+        if trims == budget {
+            state.fill(0);
+            return CUT + budget as u32;
+        }
+        past.fill(0);
+        trims += 1;
+    }
+    state[0] = 1;
+    state[SLOT..LOGICAL].fill(0);
+    for (file, &size) in sizes.iter().enumerate() {
+        put_number(state, LOGICAL + 4 * file, size as usize);
+        put_number(state, FLOOR + 4 * file, size as usize);
+    }
+    trims as u32
+}
+
+/// Empties all files.
+#[inline(never)]
+pub fn format(media: &mut [u8], sizes: &mut [u32], state: &mut [u8], budget: usize) -> u32 {
+    if media.len() != MEDIA || sizes.len() != FILES || state.len() != STATE {
+        return SHAPE;
+    }
+    state.fill(0);
+    let mut trims = 0;
+    for (bytes, size) in media.chunks_exact_mut(FILE).zip(sizes) {
+        if *size == 0 && all_zero(bytes) {
+            continue;
+        }
+        if trims == budget {
+            return CUT + budget as u32;
+        }
+        bytes.fill(0);
+        *size = 0;
+        trims += 1;
+    }
+    trims as u32
+}
+
+/// The truncate rule on a logical size, a floor and a stored size.
+#[inline(never)]
+pub fn truncate_sizes(sizes: &mut [u32], n: usize, greatest: u32) -> u32 {
+    let [logical, floor, stored] = sizes else {
+        return SHAPE;
+    };
+    if *floor > *logical || *logical > greatest || *floor > *stored {
+        return BOOKS;
+    }
+    if n > greatest as usize {
+        return RANGE;
+    }
+    *logical = n as u32;
+    *floor = (*floor).min(n as u32);
+    0
+}
+
+/// The media write of a page.
+#[inline(never)]
+pub fn write_page(page: &mut [u8], bytes: &[u8]) -> u32 {
+    if page.len() != PAGE || bytes.len() != PAGE {
+        return SHAPE;
+    }
+    page.copy_from_slice(bytes);
+    0
+}
+
+/// The media write of a stored size.
+#[inline(never)]
+pub fn write_size(media: &[u8], sizes: &mut [u32], file: usize, n: usize) -> u32 {
+    if media.len() != MEDIA || sizes.len() != FILES {
+        return SHAPE;
+    }
+    if file >= FILES {
+        return NO_FILE;
+    }
+    if n > FILE {
+        return RANGE;
+    }
+    sizes[file] = n as u32;
+    0
+}
+
+/// The media write that clears a file from `n` on.
+#[inline(never)]
+pub fn trim(media: &mut [u8], sizes: &mut [u32], file: usize, n: usize) -> u32 {
+    if media.len() != MEDIA || sizes.len() != FILES {
+        return SHAPE;
+    }
+    if file >= FILES {
+        return NO_FILE;
+    }
+    if n > FILE || n > sizes[file] as usize {
+        return RANGE;
+    }
+    media[FILE * file + n..FILE * (file + 1)].fill(0);
+    sizes[file] = n as u32;
+    0
+}
