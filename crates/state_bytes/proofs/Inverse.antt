@@ -34,7 +34,7 @@ after-mark m xs n = rw (add-comm 1 n, add-one)
 number-back : (n : ℕ) → n % 256 + 256 * (n / 256 % 256) + 65536 * (n / 65536 % 256) + 16777216 * (n / 16777216) ≡ n
 number-back n = omega arith
 
-flag-back : (b : Bool) → eqb (cond b 1 0) 1 ≡ b
+flag-back : (b : Bool) → eqb (cond b 1 0 % 2) 1 ≡ b
 flag-back true = refl
 flag-back false = refl
 
@@ -127,11 +127,11 @@ module _ (s : CacheState) (h : Shaped s) where
 -- ---- bytes, read and written
 
 -- a first byte of 0 or 1
-flag-there : (b : ℕ) → b ≤ 1 → cond (eqb b 1) 1 0 ≡ b
+flag-there : (b : ℕ) → b ≤ 1 → cond (eqb (b % 2) 1) 1 0 ≡ b
 flag-there b h =
     split-eq b 1
-    (λ e. rw (eq-eqb b 1 e) (sym e))
-    (λ n. rw (ne-eqb b 1 n) (omega arith))
+    (λ e. rw (eq-eqb (b % 2) 1 (omega arith)) (sym e))
+    (λ n. rw (ne-eqb (b % 2) 1 (λ e. n (omega arith))) (omega arith))
 
 module _ (bytes : List ℕ) (a : ℕ) where
   part-three : a + 3 ≤ length bytes → getD bytes a 0 ∷ getD bytes (a + 1) 0 ∷ getD bytes (a + 2) 0 ∷ [] ≡ part bytes a 3

@@ -48,8 +48,9 @@ encode s = s .mounted ∷ (joined slotBytes (s .slots) ++ (joined numberBytes (s
 
 -- ---- read
 
+-- the low bit of its first byte says whether it is used; bytes with any other bit there are no state
 abbrev pub slotIn : List ℕ → ℕ → Slot
-slotIn bytes a = record { used = eqb (getD bytes a 0) 1; file = getD bytes (a + 1) 0; page = getD bytes (a + 2) 0 }
+slotIn bytes a = record { used = eqb (getD bytes a 0 % 2) 1; file = getD bytes (a + 1) 0; page = getD bytes (a + 2) 0 }
 
 abbrev pub numberIn : List ℕ → ℕ → ℕ
 numberIn bytes a = getD bytes a 0 + 256 * getD bytes (a + 1) 0 + 65536 * getD bytes (a + 2) 0 + 16777216 * getD bytes (a + 3) 0

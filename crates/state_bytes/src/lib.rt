@@ -95,7 +95,7 @@ fn slot_in(state: &[u8], at: usize) -> Slot
     ensures { λ r. ⌜ r ≡ slotIn (now (state .entry)) at ⌝ }
 {
     Slot {
-        used: state[at] == 1,
+        used: state[at] % 2 == 1,
         file: state[at + 1],
         page: state[at + 2],
     }

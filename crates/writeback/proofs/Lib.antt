@@ -1,2 +1,3 @@
 mod Places
 mod Trimming
+mod Zeros

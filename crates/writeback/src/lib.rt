@@ -9,7 +9,7 @@ use device::Outcome;
 ghost use mathlib.Core.Path.{_≡_};
 ghost use mathlib.Core.Bool.{not, _||_};
 ghost use mathlib.Core.List.{List, []};
-ghost use Prim.Native.Nat.{ℕ, _≤_, _<_, _^_};
+ghost use Prim.Native.Nat.{ℕ, _≤_, _<_, _^_, max};
 ghost use lib.ListN.{length, getD};
 ghost use lib.Dec.{eqb};
 ghost use Rattle.answer.specs.Coded.{coded};
@@ -228,19 +228,23 @@ pub fn sync(
     }
 }
 
-// Whether all bytes are 0. The loop goes to the end, so that it becomes vector code.
+fn max(a: u8, b: u8) -> u8
+    ensures { λ r. ⌜ r ≡ max a b ⌝ }
+{
+    if a <= b { b } else { a }
+}
+
+// Whether all bytes are 0. The loop goes to the end, and takes the greatest, so that it becomes vector code.
 fn is_zero(bytes: &[u8]) -> bool
     ensures { λ r. ⌜ r ≡ every (λ b. eqb b 0) (now (bytes .entry)) ⌝ }
 {
-    let mut zero = true;
+    let mut greatest = 0u8;
     let mut i = 0;
     while i < bytes.len() {
-        if bytes[i] != 0 {
-            zero = false;
-        }
+        greatest = max(greatest, bytes[i]);
         i += 1;
     }
-    zero
+    greatest == 0
 }
 
 // Whether a file has a nonzero byte at or past n.
