@@ -1,2 +1,3 @@
 pub mod Counts
 pub mod Replies
+pub mod Linked

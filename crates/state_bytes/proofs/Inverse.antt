@@ -47,7 +47,7 @@ module _ (s : CacheState) (h : Shaped s) where
   abbrev tail : List ℕ
   tail = joined numberBytes (s .logical) ++ joined numberBytes (s .floor)
 
-  length-encode : length (encode s) ≡ stateBytes
+  pub length-encode : length (encode s) ≡ stateBytes
   unfolding encode
   length-encode =
       let a : length (joined slotBytes (s .slots)) ≡ 72 = length-joined 3 slotBytes (λ t. refl) (s .slots) ∙ rw (h .slots) in
