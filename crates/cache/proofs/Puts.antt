@@ -1,16 +1,42 @@
--- A loop over the pages of a write.
+-- The pages of a write.
 use mathlib.Core.Path.{_≡_, refl, sym, ap, _∙_}
-use mathlib.Core.Bool.{true, false}
-use mathlib.Core.List.{List}
+use mathlib.Core.Bool.{Bool, true, false, cond}
+use mathlib.Core.List.{List, []}
 use Prim.Native.Nat.{ℕ, zero, suc, _+_, _<_, _≤_, _-_, _/_, _%_, min}
 use native.Mathlib.Omega.{arith}
 use lib.ListN.{length, drop, length-drop}
 use lib.Seq.{drop-drop}
+use borrow.Author.Tests.{lt-ltb, le-ltb}
 use Rattle.memory.specs.Bytes.{part}
 use Rattle.media.specs.Geometry.{pageBytes, fileBytes}
+use Rattle.media.specs.Write.{mediaOf}
+use Rattle.scan.specs.Scan.{firstIndex}
+use Rattle.device.specs.declared.CacheState.{CacheState}
+use Rattle.device.specs.Device.{Device, deviceOf, slotCount, isFree, holds}
 use Rattle.device.specs.Writing.{hasSlot, putPage, andMore, putPages}
-use Rattle.device.specs.Device.{Device}
 use Rattle.device.proofs.Writing.{pages-none, pages-stop, pages-next}
+
+-- ---- whether a page has a slot: k is its own, and j the first that is free
+
+module _ (s : CacheState) (f p k : ℕ) (ek : k ≡ firstIndex (holds f p) (s .slots)) where
+  pub slot-own : k < slotCount → true ≡ hasSlot (deviceOf (mediaOf [] []) [] s) f p
+  slot-own h = rw (← ek, lt-ltb k slotCount h)
+
+  module _ (h : slotCount ≤ k) (j : ℕ) (ej : j ≡ firstIndex isFree (s .slots)) where
+    pub slot-free : j < slotCount → true ≡ hasSlot (deviceOf (mediaOf [] []) [] s) f p
+    slot-free l = rw (← ek, le-ltb k slotCount h, ← ej, lt-ltb j slotCount l)
+
+    pub slot-none : slotCount ≤ j → false ≡ hasSlot (deviceOf (mediaOf [] []) [] s) f p
+    slot-none l = rw (← ek, le-ltb k slotCount h, ← ej, le-ltb j slotCount l)
+
+-- what a page step left, by whether the page had a slot
+pub taken-yes : (b : Bool) (c x y : Device) → c ≡ cond b x y → b ≡ true → c ≡ x
+taken-yes b c x y e t = e ∙ rw t
+
+pub taken-no : (b : Bool) (c x y : Device) → c ≡ cond b x y → b ≡ false → c ≡ y
+taken-no b c x y e t = e ∙ rw t
+
+-- ---- the pages
 
 -- after i bytes of a write, in a loop: what is left of it
 pub record Rest (P f position : ℕ) (bytes : List ℕ) (before : Device) (i : ℕ) (d : Device) : Type 0 where
@@ -33,10 +59,11 @@ module _ {P f position : ℕ} {bytes : List ℕ} {before : Device} where
         sym (s .so-far ∙ rw (pages-none P f (s .turns) (position + i) (drop i bytes) d (length-drop i bytes ∙ omega arith))
         (ap (λ (j : ℕ). record { device = d; count = j }) (omega arith)))
 
-    pub rest-stop : hasSlot d f ((position + i) / pageBytes) ≡ false → record { device = d; count = i } ≡ putPages P f P position bytes before
-    rest-stop e =
-        sym (s .so-far ∙ rw (pages-stop P f (s .turns) (position + i) (drop i bytes) d e)
-        (ap (λ (j : ℕ). record { device = d; count = j }) (omega arith)))
+    pub rest-stop : (c : Device) → hasSlot d f ((position + i) / pageBytes) ≡ false → c ≡ d → record { device = c; count = i } ≡ putPages P f P position bytes before
+    rest-stop c e ec =
+        rw ec
+        (sym (s .so-far ∙ rw (pages-stop P f (s .turns) (position + i) (drop i bytes) d e)
+        (ap (λ (j : ℕ). record { device = d; count = j }) (omega arith))))
 
     pub rest-next : (k : ℕ) (c : Device) → i < length bytes → position + length bytes ≤ fileBytes P → hasSlot d f ((position + i) / pageBytes) ≡ true
         → k ≡ min (pageBytes - (position + i) % pageBytes) (length bytes - i)

@@ -22,7 +22,7 @@ pub use writeback::format;
 pub use writeback::mount;
 pub use writeback::sync;
 ghost use mathlib.Core.Path.{_≡_};
-ghost use mathlib.Core.Bool.{true};
+ghost use mathlib.Core.Bool.{cond};
 ghost use mathlib.Core.List.{List, [], map};
 ghost use Prim.Native.Nat.{_+_, _-_, _*_, _≤_, _<_, _^_, ℕ, min, _%_, max};
 ghost use lib.ListN.{length, getD};
@@ -88,7 +88,13 @@ fn cache_page(
     next
 }
 
-// One page of a write: it becomes cached where it is not, and takes its piece.
+// The state after one page of a write, and whether the page had a slot to take its piece.
+struct Piece {
+    cache: CacheState,
+    taken: bool,
+}
+
+// One page of a write: it becomes cached where it is not, and takes its piece; or it has no slot, and all stays as it is.
 fn put_page(
     media: &[u8],
     frames: &mut [u8],
@@ -98,31 +104,32 @@ fn put_page(
     offset: usize,
     bytes: &[u8],
     pages: usize,
-) -> CacheState
+) -> Piece
     requires { ⌜ (fileBytes pages < 2 ^ 16) × (length (now media) ≡ mediaBytes pages) × (length (now frames) ≡ framesBytes) × (file < files) × (page < pages)
-        × (hasSlot (deviceOf (mediaOf [] []) [] cache) file page ≡ true) × (offset + length (now bytes) ≤ pageBytes) ⌝ }
-    ensures { λ r. ⌜ ((stored : List ℕ) → deviceOf (mediaOf (now (media .entry)) stored) (now (frames .exit)) r
-        ≡ putPage pages file page offset (now (bytes .entry)) (deviceOf (mediaOf (now (media .entry)) stored) (now (frames .entry)) cache)) ⌝ }
+        × (offset + length (now bytes) ≤ pageBytes) ⌝ }
+    ensures { λ r. ⌜ (r .taken ≡ hasSlot (deviceOf (mediaOf [] []) [] cache) file page)
+        × ((stored : List ℕ) → deviceOf (mediaOf (now (media .entry)) stored) (now (frames .exit)) (r .cache)
+        ≡ cond (r .taken) (putPage pages file page offset (now (bytes .entry)) (deviceOf (mediaOf (now (media .entry)) stored) (now (frames .entry)) cache))
+        (deviceOf (mediaOf (now (media .entry)) stored) (now (frames .entry)) cache)) ⌝ }
 {
     let k = cache_state::slot_of(cache, file, page);
     if k < SLOTS {
         patch_frames(frames, PAGE_BYTES * k + offset, bytes);
-        return cache;
+        return Piece { cache, taken: true };
     }
     let j = cache_state::first_free(cache);
-    let next = cache_page(media, frames, cache, file, page, j, pages);
-    patch_frames(frames, PAGE_BYTES * j + offset, bytes);
-    next
-}
-
-// Whether a page is cached, or there is a slot for it.
-fn has_slot(cache: CacheState, file: usize, page: usize) -> bool
-    ensures { λ r. ⌜ r ≡ hasSlot (deviceOf (mediaOf [] []) [] cache) file page ⌝ }
-{
-    if cache_state::slot_of(cache, file, page) < SLOTS {
-        return true;
+    if j < SLOTS {
+        let next = cache_page(media, frames, cache, file, page, j, pages);
+        patch_frames(frames, PAGE_BYTES * j + offset, bytes);
+        return Piece {
+            cache: next,
+            taken: true,
+        };
     }
-    cache_state::first_free(cache) < SLOTS
+    Piece {
+        cache,
+        taken: false,
+    }
 }
 
 // The state after pages of a write, and how many bytes were put down.
@@ -151,18 +158,20 @@ fn put_pages(
     while from < bytes.len() {
         let page = (position + from) / PAGE_BYTES;
         let offset = (position + from) % PAGE_BYTES;
-        if has_slot(state, file, page) {
-            let to = from + number::min(PAGE_BYTES - offset, bytes.len() - from);
-            state = put_page(
-                media,
-                frames,
-                state,
-                file,
-                page,
-                offset,
-                &bytes[from..to],
-                pages,
-            );
+        let to = from + number::min(PAGE_BYTES - offset, bytes.len() - from);
+        let piece = put_page(
+            media,
+            frames,
+            state,
+            file,
+            page,
+            offset,
+            &bytes[from..to],
+            pages,
+        );
+        let taken = piece.taken;
+        state = piece.cache;
+        if taken {
             from = to;
         } else {
             return Put {
@@ -232,18 +241,18 @@ pub fn write(
                     cache,
                 };
             }
-            if has_slot(cache, file, position / PAGE_BYTES) {
-                let put = put_pages(media, frames, cache, file, position, bytes, PAGES_PER_FILE);
-                let count = put.count;
-                let state = put.cache;
+            let put = put_pages(media, frames, cache, file, position, bytes, PAGES_PER_FILE);
+            let count = put.count;
+            let state = put.cache;
+            if count == 0 {
                 return Outcome {
-                    answer: Answer::Done(count),
-                    cache: grow(state, file, position + count),
+                    answer: Answer::Refused(Refusal::NoRoom),
+                    cache: state,
                 };
             }
             Outcome {
-                answer: Answer::Refused(Refusal::NoRoom),
-                cache,
+                answer: Answer::Done(count),
+                cache: grow(state, file, position + count),
             }
         }
     }

@@ -28,7 +28,7 @@ use Rattle.device.specs.Device.{Device, slotCount, framesBytes, frameSta
 use Rattle.device.specs.Current.{frameByte, currentAt}
 use Rattle.device.specs.Admission.{Result, give, fileTests}
 use Rattle.device.specs.Writing.{hasSlot, blankPage, filledPage, cachePage, patchPage, putPage, Written, andMore, putPages, grown, hasRoom, write}
-use Rattle.scan.proofs.Scan.{first-set, first-set-here}
+use Rattle.scan.proofs.Scan.{is-false, first-set, first-set-here}
 use Rattle.device.proofs.Device.{holds-one, free-holds, slots-apart, first-free-was-free, free-apart, frame-other, Kept, kept-all, kept-trans}
 use Rattle.device.proofs.Current.{current-cached, current-media, current-zero, current-same}
 use Rattle.device.proofs.Admission.{Admitted, admit-by, file-changeless, file-admitted, admit-refused, admit-passed}
@@ -545,10 +545,6 @@ module _ (P f p : ℕ) (d : Device) where
   unfolding putPage
   put-new offset bytes h = rw (le-ltb _ _ h)
 
-  -- a page with a slot that is not cached has a free slot
-  pub free-left : hasSlot d f p ≡ true → slotCount ≤ slotOf d f p → firstFree d < slotCount
-  free-left e h = ltb-true _ _ (rw (le-ltb _ _ h) at e)
-
   -- the page has taken slot j, and is patched there
   pub put-new-in : (m : Media) (frames : List ℕ) (s : CacheState) (j offset : ℕ) (bytes : List ℕ) → deviceOf m frames s ≡ cachePage P f p d → j ≡ firstFree d
       → length (d .cache .slots) ≡ slotCount → slotCount ≤ slotOf d f p → firstFree d < slotCount
@@ -646,21 +642,27 @@ module _ (P f position : ℕ) (bytes : List ℕ) (d : Device) where
     unfolding ts room
     all-passed e = passed-join ts room h (rw e)
 
-    pub write-full : 0 < length bytes → hasSlot d f (position / pageBytes) ≡ false → give NO-ROOM d ≡ write P f position bytes d
+    -- nothing was put down: the first page has no slot
+    pub write-full : 0 < length bytes → 0 < P → (w : Written) → w ≡ putPages P f P position bytes d → w .count ≡ 0
+        → give NO-ROOM (w .device) ≡ write P f position bytes d
     unfolding write ts room
-    write-full l e =
+    write-full l hp w ew ez =
+        let e : hasSlot d f (position / pageBytes) ≡ false = is-false (hasSlot d f (position / pageBytes)) (λ t.
+        absurd (omega (arith, write-some P f P position bytes d hp l (room-of l ∙ t), ap (λ (v : Written). v .count) ew))) in
         let q : hasRoom d f position bytes ≡ false = room-of l ∙ e in
-        admit-refused (ts ++ room) d _ NoRoom (sym (first-join ts room (done 0) ∙ first-all ts _ h ∙ rw q))
+        let same : w .device ≡ d = ap (λ (v : Written). v .device) (ew ∙ pages-stop P f P position bytes d e) in
+        rw same (admit-refused (ts ++ room) d _ NoRoom (sym (first-join ts room (done 0) ∙ first-all ts _ h ∙ rw q)))
 
     pub write-empty : length bytes ≡ 0 → give (done 0) d ≡ write P f position bytes d
     unfolding write ts room grown
     write-empty l = rw (pages-none P f P position bytes d l) (admit-passed (ts ++ room) d _ (all-passed (room-empty l)))
 
-    pub write-done : 0 < length bytes → hasSlot d f (position / pageBytes) ≡ true → 0 < P → (w : Written) → w ≡ putPages P f P position bytes d
+    pub write-done : 0 < length bytes → (w : Written) → w ≡ putPages P f P position bytes d → w .count ≢ 0
         → give (done (w .count)) (deviceOf (w .device .media) (w .device .frames) (withLogical (w .device .cache) f (max (logicalAt (w .device) f) (position + w .count))))
         ≡ write P f position bytes d
     unfolding write ts room grown
-    write-done l e hp w ew =
+    write-done l w ew some =
+        let e : hasSlot d f (position / pageBytes) ≡ true =
+        cases (hasSlot d f (position / pageBytes)) (λ t. t) (λ t. absurd (some (ap (λ (v : Written). v .count) (ew ∙ pages-stop P f P position bytes d t)))) in
         let q : hasRoom d f position bytes ≡ true = room-of l ∙ e in
-        let some : w .count ≢ 0 = λ z. absurd (omega (arith, write-some P f P position bytes d hp l q, ap (λ (v : Written). v .count) ew)) in
         rw (← ew) (rw (ne-eqb _ _ some) (admit-passed (ts ++ room) d _ (all-passed q)))

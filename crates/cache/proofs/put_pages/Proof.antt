@@ -7,7 +7,7 @@ use lib.ListN.{length}
 use borrow.Author.Needs.{needs}
 use Rattle.media.specs.Write.{mediaOf}
 use Rattle.device.specs.Device.{deviceOf}
-use Rattle.cache.proofs.Puts.{Rest, rest-none, rest-end, rest-stop, rest-next}
+use Rattle.cache.proofs.Puts.{taken-yes, taken-no, Rest, rest-none, rest-end, rest-stop, rest-next}
 use Rattle.cache.proofs.put_pages.Statement.{statement}
 use Rattle.cache.proofs.put_pages.Tie as tie
 
@@ -25,9 +25,6 @@ add-page c = search needs
 
 add-offset : tie.Need-add-offset Inv-loop μ-loop
 add-offset c = search needs
-
-has-slot-requires : tie.Need-has-slot-requires Inv-loop μ-loop
-has-slot-requires c κs = search needs
 
 sub-min : tie.Need-sub-min Inv-loop μ-loop
 sub-min c = search needs
@@ -53,25 +50,26 @@ part-put-page-end c = search needs
 put-page-requires : tie.Need-put-page-requires Inv-loop μ-loop
 put-page-requires c κs =
     let l = c .before .before .before .before in
-    (search needs, search needs, omega (arith, l .before .before .loop .inv .2), search needs, omega arith, sym (l .has-slot .ensures) ∙ c .before .before .before .if1 .taken, omega arith)
+    (search needs, search needs, omega (arith, l .loop .inv .2), search needs, omega arith, omega arith)
 
 loop-less : tie.Need-loop-less Inv-loop μ-loop
 loop-less c = omega arith
 
 loop-again : tie.Need-loop-again Inv-loop μ-loop
 loop-again c =
-    let p = c .before .before in
+    let p = c .before .before .before .before in
     let n = p .before .before .before in
-    let l = n .before .before .before .before in
-    (λ stored. rest-next (l .loop .inv .0 stored) (n .min .result) _ (omega arith) (omega arith) (sym (n .before .before .has-slot .ensures) ∙ n .before .if1 .taken) (omega arith) (p .put-page .ensures stored), omega arith, omega (arith, p .put-page .kept .1, l .loop .inv .2))
+    let l = n .before .before in
+    (λ stored. rest-next (l .loop .inv .0 stored) (n .min .result) _ (omega arith) (omega arith) (sym (p .put-page .ensures .0) ∙ c .if1 .taken) (omega arith) (taken-yes _ _ _ _ (p .put-page .ensures .1 stored) (c .if1 .taken)), omega arith, omega (arith, p .put-page .kept .1, l .loop .inv .2))
 
 same-length : tie.Need-same-length Inv-loop μ-loop
 same-length c = search needs
 
 returns : tie.Need-returns Inv-loop μ-loop
 returns c =
-    let l = c .before .before .before in
-    λ stored. rest-stop (l .loop .inv .0 stored) (sym (c .before .has-slot .ensures) ∙ c .if1 .left)
+    let p = c .before .before .before .before in
+    let l = p .before .before .before .before .before in
+    λ stored. rest-stop (l .loop .inv .0 stored) _ (sym (p .put-page .ensures .0) ∙ c .if1 .left) (taken-no _ _ _ _ (p .put-page .ensures .1 stored) (c .if1 .left))
 
 same-length-2 : tie.Need-same-length-2 Inv-loop μ-loop
 same-length-2 c = search needs
@@ -88,7 +86,6 @@ put-pages-spec =
     loop-holds
     add-page
     add-offset
-    has-slot-requires
     sub-min
     sub-min-2
     min-requires

@@ -1,5 +1,5 @@
 -- `cache::write` meets its contract: refused, empty, without room, or put down page by page.
-use mathlib.Core.Path.{_≡_, sym, _∙_, ap}
+use mathlib.Core.Path.{_≡_, _∙_, ap}
 use mathlib.Core.Bool.{Bool, true}
 use Prim.Native.Nat.{_+_, _≤_}
 use native.Mathlib.Omega.{arith}
@@ -40,10 +40,16 @@ all c = file-passed pagesPerFile (device (c .before .before .before .before .bef
 in-limits : (c : tie.After-enum-told) → c .before .before .before .before .before .before .before .before .before .args .position + length (c .before .before .before .before .before .before .before .before .before .args .bytes .now) ≤ fileBytes pagesPerFile
 in-limits c = leb-true _ _ (ready c .in-range)
 
+-- what the pages took
+abbrev put : tie.After-put-pages → Written
+put c =
+    let a = c .before .before .before .before .before .before .before .before .before .before .before .before .args in
+    record { device = deviceOf (mediaOf (a .media .now) (a .sizes .now)) (c .put-pages .last .1 .0) (c .put-pages .result .cache); count = c .put-pages .result .count }
+
 -- no more was put down than there was
-most : (c : tie.After-put-pages) → c .put-pages .result .count ≤ length (c .before .before .before .before .before .before .before .before .before .before .before .before .before .before .args .bytes .now)
+most : (c : tie.After-put-pages) → c .put-pages .result .count ≤ length (c .before .before .before .before .before .before .before .before .before .before .before .before .args .bytes .now)
 most c =
-    let s = c .before .before .before .before .before .before .before .before .before .before .before .before .before .before in
+    let s = c .before .before .before .before .before .before .before .before .before .before .before .before in
     let e = ap (λ (w : Written). w .count) (c .put-pages .ensures (s .args .sizes .now)) in
     omega (arith, e, pages-most pagesPerFile (s .args .file) pagesPerFile (s .args .position) (s .args .bytes .now) (device s))
 
@@ -71,19 +77,10 @@ returns c =
     let s = t .before .before .before .before .before .before .before .before .before in
     write-empty pagesPerFile (s .args .file) (s .args .position) (s .args .bytes .now) (device s) (all t) (omega arith)
 
-has-slot-requires : tie.Need-has-slot-requires
-has-slot-requires c κs = search needs
-
 put-pages-requires : tie.Need-put-pages-requires
 put-pages-requires c κs =
-    let ok = ready (c .before .before .before .before) in
-    (search needs, ok .bytes, ok .frames, ok .file, in-limits (c .before .before .before .before))
-
-add-grow : tie.Need-add-grow
-add-grow c = omega (arith, most (c .before .before .before), in-limits (c .before .before .before .before .before .before .before .before))
-
-grow-requires : tie.Need-grow-requires
-grow-requires c κs = (ready (c .before .before .before .before .before .before .before .before) .file, omega (arith, most (c .before .before .before), in-limits (c .before .before .before .before .before .before .before .before)))
+    let ok = ready (c .before .before) in
+    (search needs, ok .bytes, ok .frames, ok .file, in-limits (c .before .before))
 
 same-length-2 : tie.Need-same-length-2
 same-length-2 c = search needs
@@ -91,11 +88,15 @@ same-length-2 c = search needs
 returns-2 : tie.Need-returns-2
 returns-2 c =
     let p = c .before .before .before .before in
-    let t = p .before .before .before .before .before in
+    let t = p .before .before .before in
     let s = t .before .before .before .before .before .before .before .before .before in
-    rw (c .grow .ensures)
-    (write-done pagesPerFile (s .args .file) (s .args .position) (s .args .bytes .now) (device s) (all t) (omega arith) (sym (p .before .before .before .has-slot .ensures) ∙ p .before .before .if2 .taken) (omega arith)
-    (record { device = deviceOf (mediaOf (s .args .media .now) (s .args .sizes .now)) (p .put-pages .last .1 .0) (p .put-pages .result .cache); count = p .put-pages .result .count }) (p .put-pages .ensures (s .args .sizes .now)))
+    write-full pagesPerFile (s .args .file) (s .args .position) (s .args .bytes .now) (device s) (all t) (omega arith) (omega arith) (put p) (p .put-pages .ensures (s .args .sizes .now)) (c .if2 .taken)
+
+add-grow : tie.Need-add-grow
+add-grow c = omega (arith, most (c .before .before .before .before), in-limits (c .before .before .before .before .before .before .before))
+
+grow-requires : tie.Need-grow-requires
+grow-requires c κs = (ready (c .before .before .before .before .before .before .before) .file, omega (arith, most (c .before .before .before .before), in-limits (c .before .before .before .before .before .before .before)))
 
 same-length-3 : tie.Need-same-length-3
 same-length-3 c = search needs
@@ -112,9 +113,11 @@ same-length-4 c = search needs
 
 returns-4 : tie.Need-returns-4
 returns-4 c =
-    let t = c .before .before .before in
+    let p = c .before .before .before .before .before in
+    let t = p .before .before .before in
     let s = t .before .before .before .before .before .before .before .before .before in
-    write-full pagesPerFile (s .args .file) (s .args .position) (s .args .bytes .now) (device s) (all t) (omega arith) (sym (c .before .has-slot .ensures) ∙ c .if2 .left)
+    rw (c .grow .ensures)
+    (write-done pagesPerFile (s .args .file) (s .args .position) (s .args .bytes .now) (device s) (all t) (omega arith) (put p) (p .put-pages .ensures (s .args .sizes .now)) (c .before .if2 .left))
 
 pub write-spec : {M : Type 1} → statement M
 write-spec =
@@ -127,12 +130,11 @@ write-spec =
     enum-told
     same-length
     returns
-    has-slot-requires
     put-pages-requires
-    add-grow
-    grow-requires
     same-length-2
     returns-2
+    add-grow
+    grow-requires
     same-length-3
     returns-3
     same-length-4
