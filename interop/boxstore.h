@@ -123,9 +123,9 @@ uint32_t boxstore_look_count(const uint8_t *media, size_t media_len, const uint3
                              size_t file, size_t position);
 
 /* Look: where the bytes from the position on lie, to the end of its page at most, without a copy. One word:
- * 2^32 * offset + 65,536 * source + count, source 0 for the media and 1 for the frames. The count is 0, and the word too, on a
- * refusal; it is 0 at or past the logical size, and in zeros that no buffer has. Where it is less than that of
- * boxstore_look_count, the rest are zeros. */
+ * 2^32 * offset + 65,536 * source + count, source 0 for the media and 1 for the frames. On a refusal the word is 0. Else its count
+ * is 0 at or past the logical size, and in zeros that no buffer has. Where it is less than the count of boxstore_look_count, the
+ * rest are zeros. */
 uint64_t boxstore_look(const uint8_t *media, size_t media_len, const uint32_t *sizes, size_t sizes_len,
                        const uint8_t *frames, size_t frames_len, const uint8_t *state, size_t state_len,
                        size_t file, size_t position);
