@@ -53,10 +53,10 @@ module _ (call : Device → Result Device) (kept : (d : Device) → Kept d (call
   refused l n m =
       cases (eqb (length (l .state)) stateBytes)
       (λ e.
-        let k : call (deviceIn l) .answer .number ≢ 0 = rw e at n in
-        let j : call (deviceIn l) .answer .number ≢ 9 = rw e at m in
-        let q : eqb (call (deviceIn l) .answer .number) 0 || eqb (call (deviceIn l) .answer .number) 9 ≡ false = rw (ne-eqb _ 0 k, ne-eqb _ 9 j) in
-        rw (e, q, kept (deviceIn l) q))
+      let k : call (deviceIn l) .answer .number ≢ 0 = rw e at n in
+      let j : call (deviceIn l) .answer .number ≢ 9 = rw e at m in
+      let q : eqb (call (deviceIn l) .answer .number) 0 || eqb (call (deviceIn l) .answer .number) 9 ≡ false = rw (ne-eqb _ 0 k, ne-eqb _ 9 j) in
+      rw (e, q, kept (deviceIn l) q))
       (λ e. rw e)
 
 on-bytes : (call : Device → Result Device) → ((d : Device) → Kept d (call d)) → ((d : Device) → Kind d (call d)) → OnBytes call
@@ -113,9 +113,10 @@ grown-shaped f position w h =
 truncated-shaped : (f n : ℕ) (d : Device) → Shaped (d .cache) → Shaped (truncated f n d .cache)
 unfolding truncated clearTail withSizes
 truncated-shaped f n d h = record {
-    slots = length-map (d .cache .slots) (freeWhere (pagesFrom f n)) ∙ h .slots;
-    logical = length-set (d .cache .logical) f _ ∙ h .logical;
-    floor = length-set (d .cache .floor) f _ ∙ h .floor }
+  slots = length-map (d .cache .slots) (freeWhere (pagesFrom f n)) ∙ h .slots;
+  logical = length-set (d .cache .logical) f _ ∙ h .logical;
+  floor = length-set (d .cache .floor) f _ ∙ h .floor;
+}
 
 synced-shaped : (f : ℕ) (s : CacheState) → Shaped s → Shaped (syncedState s f)
 unfolding syncedState
@@ -149,9 +150,10 @@ words a b h k e =
 
 pub linked : (P : ℕ) → Linked P
 linked P = record {
-    writing = λ f position bytes. on-bytes (write P f position bytes) (λ d. write-kept P d f position bytes) (λ d. write-shaped P d f position bytes);
-    truncating = λ f n. on-bytes (truncate P f n) (λ d. truncate-kept P d f n) (λ d. truncate-shaped P d f n);
-    syncing = λ f budget. on-bytes (sync P f budget) (λ d. sync-kept P d f budget) (λ d. sync-shaped P d f budget);
-    mounting = λ budget. on-bytes (mount P budget) (λ d. mount-kept P d budget) (λ d. mount-shaped P d budget);
-    formatting = λ budget. on-bytes (format P budget) (λ d. format-kept P d budget) (λ d. format-shaped P d budget);
-    words = words }
+  writing = λ f position bytes. on-bytes (write P f position bytes) (λ d. write-kept P d f position bytes) (λ d. write-shaped P d f position bytes);
+  truncating = λ f n. on-bytes (truncate P f n) (λ d. truncate-kept P d f n) (λ d. truncate-shaped P d f n);
+  syncing = λ f budget. on-bytes (sync P f budget) (λ d. sync-kept P d f budget) (λ d. sync-shaped P d f budget);
+  mounting = λ budget. on-bytes (mount P budget) (λ d. mount-kept P d budget) (λ d. mount-shaped P d budget);
+  formatting = λ budget. on-bytes (format P budget) (λ d. format-kept P d budget) (λ d. format-shaped P d budget);
+  words = words;
+}

@@ -89,7 +89,8 @@ pub extern "C" fn boxstore_format(
     if state.len() != state_bytes::STATE_BYTES {
         return SHAPE;
     }
-    let outcome = cache::format(media, sizes, state_bytes::decode(state), budget);
+    let came = state_bytes::decode(state);
+    let outcome = cache::format(media, sizes, came, budget);
     finish(state, outcome)
 }
 
@@ -107,7 +108,8 @@ pub extern "C" fn boxstore_mount(
     if state.len() != state_bytes::STATE_BYTES {
         return SHAPE;
     }
-    let outcome = cache::mount(media, sizes, state_bytes::decode(state), budget);
+    let came = state_bytes::decode(state);
+    let outcome = cache::mount(media, sizes, came, budget);
     finish(state, outcome)
 }
 
@@ -128,15 +130,8 @@ pub extern "C" fn boxstore_read(
     if state.len() != state_bytes::STATE_BYTES {
         return SHAPE;
     }
-    answer_word(cache::read(
-        media,
-        sizes,
-        frames,
-        state_bytes::decode(state),
-        file,
-        position,
-        buffer,
-    ))
+    let came = state_bytes::decode(state);
+    answer_word(cache::read(media, sizes, frames, came, file, position, buffer))
 }
 
 // Write: puts the bytes into cached pages, ascending, and counts them.
@@ -156,15 +151,8 @@ pub extern "C" fn boxstore_write(
     if state.len() != state_bytes::STATE_BYTES {
         return SHAPE;
     }
-    let outcome = cache::write(
-        media,
-        sizes,
-        frames,
-        state_bytes::decode(state),
-        file,
-        position,
-        bytes,
-    );
+    let came = state_bytes::decode(state);
+    let outcome = cache::write(media, sizes, frames, came, file, position, bytes);
     finish(state, outcome)
 }
 
@@ -184,7 +172,8 @@ pub extern "C" fn boxstore_truncate(
     if state.len() != state_bytes::STATE_BYTES {
         return SHAPE;
     }
-    let outcome = cache::truncate(media, sizes, frames, state_bytes::decode(state), file, n);
+    let came = state_bytes::decode(state);
+    let outcome = cache::truncate(media, sizes, frames, came, file, n);
     finish(state, outcome)
 }
 
@@ -204,14 +193,8 @@ pub extern "C" fn boxstore_sync(
     if state.len() != state_bytes::STATE_BYTES {
         return SHAPE;
     }
-    let outcome = cache::sync(
-        media,
-        sizes,
-        frames,
-        state_bytes::decode(state),
-        file,
-        budget,
-    );
+    let came = state_bytes::decode(state);
+    let outcome = cache::sync(media, sizes, frames, came, file, budget);
     finish(state, outcome)
 }
 
@@ -230,14 +213,8 @@ pub extern "C" fn boxstore_look_count(
     if state.len() != state_bytes::STATE_BYTES {
         return SHAPE;
     }
-    answer_word(cache::look_count(
-        media,
-        sizes,
-        frames,
-        state_bytes::decode(state),
-        file,
-        position,
-    ))
+    let came = state_bytes::decode(state);
+    answer_word(cache::look_count(media, sizes, frames, came, file, position))
 }
 
 // Where a part lies, as a word.
@@ -268,14 +245,8 @@ pub extern "C" fn boxstore_look(
     if state.len() != state_bytes::STATE_BYTES {
         return 0;
     }
-    span_word(cache::look_span(
-        media,
-        sizes,
-        frames,
-        state_bytes::decode(state),
-        file,
-        position,
-    ))
+    let came = state_bytes::decode(state);
+    span_word(cache::look_span(media, sizes, frames, came, file, position))
 }
 
 // The truncate rule on the sizes of one file: logical size, floor and stored size.

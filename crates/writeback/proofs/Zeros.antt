@@ -15,8 +15,8 @@ zero-next xs i g s h =
     let b : ℕ = getD xs i 0 in
     split-eq b 0
     (λ e.
-      let m : max g b ≡ g = omega arith in
-      rw m (flagged-next 0 s h (eq-eqb b 0 e)))
+    let m : max g b ≡ g = omega arith in
+    rw m (flagged-next 0 s h (eq-eqb b 0 e)))
     (λ n.
-      let m : eqb (max g b) 0 ≡ false = ne-eqb (max g b) 0 (λ e. n (omega arith)) in
-      rw m (flagged-fails 0 s h (ne-eqb b 0 n)))
+    let m : eqb (max g b) 0 ≡ false = ne-eqb (max g b) 0 (λ e. n (omega arith)) in
+    rw m (flagged-fails 0 s h (ne-eqb b 0 n)))

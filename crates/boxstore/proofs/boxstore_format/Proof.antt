@@ -25,7 +25,7 @@ came c frames = lent (mediaOf (c .args .media .now) (c .args .sizes .now)) frame
 -- what the call gives on the device that the bytes say
 called : (c : tie.After-format) → (frames : List ℕ) → let s = c .before .before .before .before .before .before .before .before .before in
     give (coded (c .format .result .answer)) (deviceOf (mediaOf (c .format .last .0) (c .format .last .1 .0)) frames (c .format .result .cache)) ≡ format pagesPerFile (s .args .budget) (deviceIn (came s frames))
-called c frames = rw (c .before .decode .ensures) at (c .format .ensures frames)
+called c frames = rw (c .before .before .before .decode .ensures) at (c .format .ensures frames)
 
 returns : tie.Need-returns
 returns c = λ frames. on-shape (came (c .before .before .before .before) frames) (λ e. omega arith) (format pagesPerFile (c .before .before .before .before .args .budget))

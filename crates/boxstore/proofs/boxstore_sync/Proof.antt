@@ -23,7 +23,7 @@ came c = lent (mediaOf (c .args .media .now) (c .args .sizes .now)) (c .args .fr
 -- what the call gives on the device that the bytes say
 called : (c : tie.After-sync) → let s = c .before .before .before .before .before .before .before .before .before .before in
     give (coded (c .sync .result .answer)) (deviceOf (mediaOf (c .sync .last .0) (c .sync .last .1 .0)) (s .args .frames .now) (c .sync .result .cache)) ≡ sync pagesPerFile (s .args .file) (s .args .budget) (deviceIn (came s))
-called c = rw (c .before .decode .ensures) at (c .sync .ensures)
+called c = rw (c .before .before .before .decode .ensures) at (c .sync .ensures)
 
 returns : tie.Need-returns
 returns c = on-shape (came (c .before .before .before .before .before)) (λ e. omega arith) (sync pagesPerFile (c .before .before .before .before .before .args .file) (c .before .before .before .before .before .args .budget))

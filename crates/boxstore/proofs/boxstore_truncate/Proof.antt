@@ -23,7 +23,7 @@ came c = lent (mediaOf (c .args .media .now) (c .args .sizes .now)) (c .args .fr
 -- what the call gives on the device that the bytes say
 called : (c : tie.After-truncate) → let s = c .before .before .before .before .before .before .before .before .before in
     give (coded (c .truncate .result .answer)) (deviceOf (mediaOf (s .args .media .now) (s .args .sizes .now)) (c .truncate .last .1 .1 .0) (c .truncate .result .cache)) ≡ truncate pagesPerFile (s .args .file) (s .args .n) (deviceIn (came s))
-called c = rw (c .before .decode .ensures) at (c .truncate .ensures)
+called c = rw (c .before .before .decode .ensures) at (c .truncate .ensures)
 
 returns : tie.Need-returns
 returns c = on-shape (came (c .before .before .before .before .before)) (λ e. omega arith) (truncate pagesPerFile (c .before .before .before .before .before .args .file) (c .before .before .before .before .before .args .n))

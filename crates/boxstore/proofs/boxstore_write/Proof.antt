@@ -23,7 +23,7 @@ came c = lent (mediaOf (c .args .media .now) (c .args .sizes .now)) (c .args .fr
 -- what the call gives on the device that the bytes say
 called : (c : tie.After-write) → let s = c .before .before .before .before .before .before .before .before .before .before in
     give (coded (c .write .result .answer)) (deviceOf (mediaOf (s .args .media .now) (s .args .sizes .now)) (c .write .last .1 .1 .0) (c .write .result .cache)) ≡ write pagesPerFile (s .args .file) (s .args .position) (s .args .bytes .now) (deviceIn (came s))
-called c = rw (c .before .decode .ensures) at (c .write .ensures)
+called c = rw (c .before .before .decode .ensures) at (c .write .ensures)
 
 returns : tie.Need-returns
 returns c = on-shape (came (c .before .before .before .before .before .before)) (λ e. omega arith) (write pagesPerFile (c .before .before .before .before .before .before .args .file) (c .before .before .before .before .before .before .args .position) (c .before .before .before .before .before .before .args .bytes .now))
