@@ -107,9 +107,9 @@ impl Generator {
         let up = memory.state[0] == 1;
         let file = self.rng.below(self.files);
         let kind = if up {
-            self.rng.weighted(&[34, 16, 16, 12, 10, 3, 3, 2, 2])
+            self.rng.weighted(&[34, 16, 16, 12, 10, 3, 3, 2, 2, 2])
         } else {
-            self.rng.weighted(&[5, 3, 3, 3, 3, 70, 3, 0, 2])
+            self.rng.weighted(&[5, 3, 3, 3, 3, 70, 3, 2, 0, 0])
         };
         let call = match kind {
             0 => self.write(memory, file),
@@ -137,8 +137,9 @@ impl Generator {
                     frames: self.rng.next_u64(),
                 }
             }
-            7 => return self.long_sync(file),
-            _ => self.odd_call(),
+            7 => self.odd_call(),
+            8 => return self.long_sync(file),
+            _ => return self.back_to_size(memory, file),
         };
         Step::Call(call)
     }
@@ -211,6 +212,26 @@ impl Generator {
         })
     }
 
+    /// A shorter file that gets its stored size again before a sync.
+    fn back_to_size(&mut self, memory: &Memory, file: usize) -> Step {
+        let stored = memory.sizes[file] as usize;
+        let n = self.rng.below(stored + 1);
+        let back = if self.rng.chance(50) {
+            Call::Truncate { file, n: stored }
+        } else {
+            let position = self.rng.between(n, stored);
+            Call::Write {
+                file,
+                position,
+                bytes: self.bytes(stored - position),
+            }
+        };
+        self.next.push_back(Step::Call(back));
+        let sync = self.sync(file);
+        self.next.push_back(Step::Call(sync));
+        Step::Call(Call::Truncate { file, n })
+    }
+
     /// A position or a size: at the border of a page, near one of the file's
     /// sizes, or anywhere; seldom beyond the greatest.
     fn position(&mut self, memory: &Memory, file: usize) -> usize {
@@ -226,7 +247,7 @@ impl Generator {
         }
     }
 
-    /// A call on a file that is not there or at a position that is not.
+    /// A call with any numbers.
     fn odd_call(&mut self) -> Call {
         loop {
             let call = Call::random(&mut self.rng);

@@ -40,15 +40,26 @@ impl<A: Store, B: Store> Run<A, B> {
         };
         if history.format {
             let answered = run.pair.call::<A, B>(&Call::Format { budget: FULL })?;
-            done(&answered, "format")?;
+            tally.calls += 1;
+            if answered.number() != 0 {
+                return Err(format!("the format answers {:x}", answered.word));
+            }
         }
-        let answered = run.pair.call::<A, B>(&Call::Mount { budget: FULL })?;
-        done(&answered, "mount")?;
-        for (file, model) in run.files.iter_mut().enumerate() {
-            model.mount(on_media(run.pair.memory(), file)?);
+        // The first mount finds what is on the media.
+        run.found()?;
+        run.step(&Step::Call(Call::Mount { budget: FULL }), tally)?;
+        if run.pair.memory().state[0] != 1 {
+            return Err("the first mount is not done".to_owned());
         }
-        tally.calls += 1 + usize::from(history.format);
         Ok(run)
+    }
+
+    /// The model files become what is on the media.
+    fn found(&mut self) -> Result<(), String> {
+        for (file, model) in self.files.iter_mut().enumerate() {
+            model.mount(on_media(self.pair.memory(), file)?);
+        }
+        Ok(())
     }
 
     /// The memory of the second store.
@@ -154,19 +165,7 @@ impl<A: Store, B: Store> Run<A, B> {
                 }
                 tally.parts += 1;
             }
-            let mut buffer = [0xee; FILE_MAX + 1];
-            let word = B::read(
-                &memory.media,
-                &memory.sizes,
-                &memory.frames,
-                &memory.state,
-                file,
-                0,
-                &mut buffer,
-            );
-            if word as usize != found.len() || buffer[..found.len()] != *found {
-                return Err(format!("file {file} does not read as the mount found it"));
-            }
+            reads_as::<B>(memory, file, found)?;
         }
         tally.mounts += 1;
         Ok(())
@@ -235,6 +234,7 @@ impl<A: Store, B: Store> Run<A, B> {
                 }
                 self.cache(*file, *position, count);
                 self.files[*file].write(*position, bytes, Answer::Done(count));
+                reads_as::<B>(self.memory(), *file, &self.files[*file].current)?;
                 tally.short_writes += usize::from(0 < count && count < bytes.len());
             }
             (Call::Truncate { file, n }, 0) => {
@@ -244,6 +244,7 @@ impl<A: Store, B: Store> Run<A, B> {
                 }
                 self.cached[*file][n.div_ceil(PAGE)..].fill(false);
                 self.files[*file].truncate(*n, Answer::Done(0));
+                reads_as::<B>(self.memory(), *file, &self.files[*file].current)?;
             }
             (Call::Sync { file, budget }, 0 | 9) => {
                 self.rest(*file, 0)?;
@@ -261,14 +262,13 @@ impl<A: Store, B: Store> Run<A, B> {
                 if on_media(self.pair.memory(), *file)? != self.files[*file].current {
                     return Err("the media do not hold the model's bytes after a sync".to_owned());
                 }
+                reads_as::<B>(self.memory(), *file, &self.files[*file].current)?;
                 tally.syncs += 1;
             }
             (Call::Mount { .. }, 0) => {
                 self.cached = Default::default();
                 self.mounted(&self.pair, tally)?;
-                for (file, model) in self.files.iter_mut().enumerate() {
-                    model.mount(on_media(self.pair.memory(), file)?);
-                }
+                self.found()?;
             }
             (Call::Mount { budget }, 9) => {
                 self.down(answered, *budget, &self.pair)?;
@@ -336,10 +336,22 @@ impl<A: Store, B: Store> Run<A, B> {
     }
 }
 
-fn done(answered: &Answered, what: &str) -> Result<(), String> {
-    match answered.number() {
-        0 => Ok(()),
-        _ => Err(format!("the first {what} answers {:x}", answered.word)),
+/// A read of the whole file gives these bytes, and no more.
+fn reads_as<B: Store>(memory: &Memory, file: usize, bytes: &[u8]) -> Result<(), String> {
+    let mut buffer = [0xee; FILE_MAX + 1];
+    let word = B::read(
+        &memory.media,
+        &memory.sizes,
+        &memory.frames,
+        &memory.state,
+        file,
+        0,
+        &mut buffer,
+    );
+    if word as usize == bytes.len() && buffer.starts_with(bytes) {
+        Ok(())
+    } else {
+        Err(format!("file {file} does not read as its model"))
     }
 }
 

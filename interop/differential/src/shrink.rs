@@ -20,7 +20,7 @@ pub fn shrink(history: History, fails: impl Fn(&History) -> Option<usize>) -> Hi
     shrinker.accepts(shrinker.best.clone());
     loop {
         let before = shrinker.best.clone();
-        shrinker.start();
+        shrinker.simplify_start();
         shrinker.remove_steps();
         shrinker.simplify_calls();
         if shrinker.best == before || Instant::now() >= shrinker.deadline {
@@ -50,17 +50,27 @@ impl<F: Fn(&History) -> Option<usize>> Shrinker<F> {
         true
     }
 
-    fn start(&mut self) {
-        for format in [true, false] {
-            let history = History {
-                start: Memory::new(),
-                format,
-                ..self.best.clone()
-            };
-            if (history.format != self.best.format || history.start != self.best.start)
-                && self.accepts(history)
-            {
-                return;
+    /// A formatted box, or one with less in it.
+    fn simplify_start(&mut self) {
+        if self.best.format {
+            return;
+        }
+        let formatted = History {
+            start: Memory::new(),
+            format: true,
+            ..self.best.clone()
+        };
+        if self.accepts(formatted) {
+            return;
+        }
+        for way in 0..Memory::SIMPLER {
+            if let Some(start) = self.best.start.simpler(way) {
+                let steps = self.best.steps.clone();
+                self.accepts(History {
+                    start,
+                    format: false,
+                    steps,
+                });
             }
         }
     }

@@ -70,8 +70,11 @@ impl Tally {
         for (writes, &count) in self.cut_syncs.iter().enumerate() {
             need(count, &format!("syncs cut after {writes}"));
         }
-        // a cut leaves bytes past one stored size
-        need(self.cut_mounts[0], "mounts cut after 0");
+        // More are rare: the first mount alone can find several files with
+        // bytes past their stored size.
+        for (writes, &count) in self.cut_mounts[..4].iter().enumerate() {
+            need(count, &format!("mounts cut after {writes}"));
+        }
         missing
     }
 }

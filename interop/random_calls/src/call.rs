@@ -248,21 +248,17 @@ impl Call {
         let mut call = self.clone();
         for index in 0..call.numbers().len() {
             let number = *call.numbers()[index];
-            for smaller in [0, number / 2, number.saturating_sub(1)] {
-                if smaller < number {
-                    *call.numbers()[index] = smaller;
-                    simpler.push(call.clone());
-                }
+            for smaller in smaller(number) {
+                *call.numbers()[index] = smaller;
+                simpler.push(call.clone());
             }
             *call.numbers()[index] = number;
         }
         for index in 0..call.buffers().len() {
             let bytes = call.buffers()[index].clone();
-            for shorter in [0, bytes.len() / 2, bytes.len().saturating_sub(1)] {
-                if shorter < bytes.len() {
-                    *call.buffers()[index] = bytes[..shorter].to_vec();
-                    simpler.push(call.clone());
-                }
+            for shorter in smaller(bytes.len()) {
+                *call.buffers()[index] = bytes[..shorter].to_vec();
+                simpler.push(call.clone());
             }
             if bytes.iter().any(|&byte| byte != 1) {
                 *call.buffers()[index] = vec![1; bytes.len()];
@@ -344,6 +340,18 @@ fn random_bytes(rng: &mut Rng, length: usize) -> Vec<u8> {
     let mut bytes = vec![0; length];
     fill(rng, &mut bytes);
     bytes
+}
+
+/// Some smaller numbers, the smallest first.
+fn smaller(number: usize) -> impl Iterator<Item = usize> {
+    let numbers = [
+        0,
+        number / 2,
+        number - number / 8,
+        number - number / 64,
+        number.saturating_sub(1),
+    ];
+    numbers.into_iter().filter(move |&smaller| smaller < number)
 }
 
 impl fmt::Display for Call {

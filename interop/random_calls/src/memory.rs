@@ -66,6 +66,44 @@ impl Memory {
         decode(&self.state).is_some_and(|state| state.is_sound(&self.sizes))
     }
 
+    /// The number of ways to make memory simpler.
+    pub const SIMPLER: usize = 3 + 6 * FILES + 2 * SLOTS;
+
+    /// The memory with one thing made simpler, for each way another; nothing
+    /// where it is simple there already.
+    pub fn simpler(&self, way: usize) -> Option<Memory> {
+        let mut memory = self.clone();
+        let Memory {
+            media,
+            sizes,
+            frames,
+            state,
+        } = &mut memory;
+        let file = way % FILES;
+        let (logical, floor) = (73 + 4 * file, 105 + 4 * file);
+        let slot = way % SLOTS;
+        match way / FILES {
+            0 => clear(media, file * FILE_MAX, FILE_MAX),
+            1 => clear(sizes, file, 1),
+            2 => clear(state, floor, 4),
+            3 => {
+                clear(state, logical, 4);
+                clear(state, floor, 4);
+            }
+            4 => {
+                clear(sizes, file, 1);
+                clear(state, logical, 4);
+                clear(state, floor, 4);
+            }
+            5 if state.len() >= floor + 4 => state.copy_within(floor..floor + 4, logical),
+            5 => {}
+            6..=8 => clear(state, 1 + 3 * slot, 3),
+            9..=11 => clear(frames, slot * PAGE, PAGE),
+            _ => [media, frames, state][way % FILES].fill(0),
+        }
+        (memory != *self).then_some(memory)
+    }
+
     /// Memory with a sound state that is up.
     fn sound(rng: &mut Rng) -> Memory {
         let mut memory = Memory::new();
@@ -248,6 +286,13 @@ fn other_length(rng: &mut Rng, length: usize) -> usize {
     match rng.below(6) {
         0 => rng.below(2 * length),
         _ => rng.pick(&[0, 1, length - 1, length + 1, 2 * length]),
+    }
+}
+
+/// Makes a part 0, where it is there.
+fn clear<T: Default + Clone>(values: &mut [T], start: usize, length: usize) {
+    if let Some(part) = values.get_mut(start..start + length) {
+        part.fill(T::default());
     }
 }
 
