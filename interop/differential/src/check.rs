@@ -49,7 +49,7 @@ pub fn check<A: Store, B: Store>(seed: u64, histories: usize) -> Result<Tally, B
     let mut tally = Tally::default();
     for index in 0..histories {
         let mut generator = Generator::new(seeds.next_u64());
-        if let Err((history, what)) = random::<A, B>(&mut generator, &mut tally) {
+        if let Some((history, what)) = failing::<A, B>(&mut generator, &mut tally) {
             let history = shrink(history, |history| {
                 replay::<A, B>(history).err().map(|(step, _)| step)
             });
@@ -67,25 +67,26 @@ pub fn check<A: Store, B: Store>(seed: u64, histories: usize) -> Result<Tally, B
     Ok(tally)
 }
 
-/// Makes one history, each step for the box as it is then.
-fn random<A: Store, B: Store>(
+/// Makes one history, each step for the box as it is then. At a fault, tells
+/// the steps up to there and what is wrong.
+fn failing<A: Store, B: Store>(
     generator: &mut Generator,
     tally: &mut Tally,
-) -> Result<(), (History, String)> {
+) -> Option<(History, String)> {
     let mut history = generator.start();
     let mut run = match Run::<A, B>::new(&history, tally) {
         Ok(run) => run,
-        Err(what) => return Err((history, what)),
+        Err(what) => return Some((history, what)),
     };
     for _ in 0..generator.steps() {
         let step = generator.step(run.memory());
         let result = run.step(&step, tally);
         history.steps.push(step);
         if let Err(what) = result {
-            return Err((history, what));
+            return Some((history, what));
         }
     }
-    Ok(())
+    None
 }
 
 /// Carries a history out once more; at a fault tells the step.

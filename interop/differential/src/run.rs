@@ -91,7 +91,9 @@ impl<A: Store, B: Store> Run<A, B> {
         }
     }
 
-    /// Cuts a sync or a mount after each number of media writes, and mounts.
+    /// Cuts a sync or a mount after each number of media writes, and mounts. A
+    /// call knows no more than the memory it is lent, so that a copy of the box
+    /// stands for the same history made once more.
     fn cuts(&mut self, call: &Call, tally: &mut Tally) -> Result<(), String> {
         for budget in 0..=FULL {
             let call = match *call {
@@ -140,8 +142,8 @@ impl<A: Store, B: Store> Run<A, B> {
     fn down(&self, answered: &Answered, budget: usize, pair: &Pair) -> Result<(), String> {
         if answered.number() != 9 || answered.count() != budget {
             return Err(format!(
-                "the answer {:x} to {}",
-                answered.word, answered.call
+                "the answer {:x} to a budget of {budget}",
+                answered.word
             ));
         }
         if pair.memory().state.iter().any(|&byte| byte != 0) {
@@ -194,9 +196,7 @@ impl<A: Store, B: Store> Run<A, B> {
             ) => {
                 let rest = self.rest(*file, *position)?;
                 let read = rest.len().min(buffer.len());
-                let Call::Read { buffer: after, .. } = &answered.call else {
-                    return wrong();
-                };
+                let after = &answered.bytes;
                 if count != read {
                     return wrong();
                 }
@@ -211,8 +211,8 @@ impl<A: Store, B: Store> Run<A, B> {
                 if count != rest.len() {
                     return wrong();
                 }
-                let zeros = rest.get(answered.looked.len()..);
-                if !rest.starts_with(&answered.looked)
+                let zeros = rest.get(answered.bytes.len()..);
+                if !rest.starts_with(&answered.bytes)
                     || zeros.is_none_or(|zeros| zeros.iter().any(|&byte| byte != 0))
                 {
                     return Err("the bytes looked at are not the model's".to_owned());

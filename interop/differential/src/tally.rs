@@ -84,3 +84,55 @@ fn add(mine: &mut [usize], theirs: &[usize]) {
         *mine += theirs;
     }
 }
+
+#[cfg(test)]
+mod tests {
+    use super::*;
+
+    #[test]
+    fn counts_add_up() {
+        let mut one = Tally {
+            histories: 1,
+            calls: 2,
+            cuts: 3,
+            cut_syncs: [4; FULL],
+            cut_mounts: [5; 8],
+            mounts: 6,
+            parts: 7,
+            syncs: 8,
+            reads: 9,
+            refused: [10; 10],
+            short_writes: 11,
+            power_losses: 12,
+        };
+        let two = Tally {
+            histories: 2,
+            calls: 4,
+            cuts: 6,
+            cut_syncs: [8; FULL],
+            cut_mounts: [10; 8],
+            mounts: 12,
+            parts: 14,
+            syncs: 16,
+            reads: 18,
+            refused: [20; 10],
+            short_writes: 22,
+            power_losses: 24,
+        };
+        one.add(&one.clone());
+        assert_eq!(one, two);
+        assert_eq!(two.missing(), [""; 0]);
+    }
+
+    #[test]
+    fn each_cut_of_a_sync_has_to_come_up() {
+        let mut tally = Tally {
+            cut_syncs: [1; FULL],
+            ..Tally::default()
+        };
+        let missing = tally.missing().len();
+        tally.cut_syncs[17] = 0;
+        assert_eq!(tally.missing().len(), missing + 1);
+        assert!(tally.missing().contains(&"syncs cut after 17".to_owned()));
+    }
+}

@@ -11,7 +11,7 @@ mod shrink;
 mod store;
 mod text;
 
-pub use call::{Call, KINDS};
+pub use call::Call;
 pub use compare::{compare, Difference, Tally};
 pub use memory::{fill, Memory};
 pub use pair::{Answered, Pair};

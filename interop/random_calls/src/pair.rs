@@ -22,10 +22,8 @@ pub struct Pair {
 pub struct Answered {
     /// The word: 65,536 * number + count.
     pub word: u32,
-    /// Of a look, the bytes that it names.
-    pub looked: Vec<u8>,
-    /// The call with its buffers as the second store left them.
-    pub call: Call,
+    /// Of a read, the buffer after it; of a look, the bytes that it names.
+    pub bytes: Vec<u8>,
 }
 
 impl Answered {
@@ -128,17 +126,12 @@ impl Pair {
         if let Some(what) = self.different() {
             return Err(format!("the {what} differ"));
         }
-        let looked = match call {
-            Call::Look { file, position } => {
-                self.looked::<A>(*file, *position, word, look)?.to_vec()
-            }
+        let bytes = match call_two {
+            Call::Read { buffer, .. } => buffer,
+            Call::Look { file, position } => self.looked::<A>(file, position, word, look)?.to_vec(),
             _ => Vec::new(),
         };
-        Ok(Answered {
-            word,
-            looked,
-            call: call_two,
-        })
+        Ok(Answered { word, bytes })
     }
 
     /// What of the memory differs, if something does.
