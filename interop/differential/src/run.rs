@@ -101,12 +101,13 @@ impl<A: Store, B: Store> Run<A, B> {
                 _ => Call::Mount { budget },
             };
             self.other.set(&self.pair);
-            let answered = self.other.call::<A, B>(&call)?;
+            let during = |what: String| format!("{call}: {what}");
+            let answered = self.other.call::<A, B>(&call).map_err(during)?;
             tally.calls += 1;
             if answered.number() != 9 {
                 return Ok(());
             }
-            self.down(&answered, budget, &self.other)?;
+            self.down(&answered, budget, &self.other).map_err(during)?;
             tally.cuts += 1;
             let cuts: &mut [usize] = match call {
                 Call::Sync { .. } => &mut tally.cut_syncs,
