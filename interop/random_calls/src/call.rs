@@ -1,10 +1,13 @@
 //! Random calls.
 
+use std::fmt;
+
 use random_sessions::rng::Rng;
 use reference::store::{FILES, FILE_MAX, PAGE, PAGES};
 
 use crate::memory::{fill, Memory};
 use crate::store::Store;
+use crate::text::Bytes;
 
 /// One call with its arguments, and the buffers of its own.
 #[derive(Clone, Debug, PartialEq, Eq)]
@@ -185,16 +188,16 @@ impl Call {
         if rng.chance(10) {
             record.resize(rng.pick(&[0, 1, 2, 4]), 0);
         }
-        let n = if rng.chance(60) {
-            rng.between(0, greatest as usize)
-        } else {
-            rng.pick(&[
+        let n = match rng.below(20) {
+            0..=11 => rng.between(0, greatest as usize),
+            12 => number(rng),
+            _ => rng.pick(&[
                 0,
                 greatest as usize,
                 greatest as usize + 1,
                 1 << 32,
                 usize::MAX,
-            ])
+            ]),
         };
         Call::TruncateSizes {
             record,
@@ -218,6 +221,75 @@ impl Call {
             Call::WritePage { .. } => 9,
             Call::WriteSize { .. } => 10,
             Call::Trim { .. } => 11,
+        }
+    }
+
+    /// What of the memory the call may write: media, sizes, frames, state.
+    pub(crate) fn may_write(&self) -> [bool; 4] {
+        match self {
+            Call::Down => [false, false, false, true],
+            Call::Format { .. } | Call::Mount { .. } | Call::Sync { .. } => {
+                [true, true, false, true]
+            }
+            Call::Write { .. } | Call::Truncate { .. } => [false, false, true, true],
+            Call::WriteSize { .. } => [false, true, false, false],
+            Call::Trim { .. } => [true, true, false, false],
+            Call::Read { .. }
+            | Call::Look { .. }
+            | Call::TruncateSizes { .. }
+            | Call::WritePage { .. } => [false; 4],
+        }
+    }
+
+    /// Calls of the same kind with one thing made simpler: a number smaller, a
+    /// buffer shorter or of one value.
+    pub fn simpler(&self) -> Vec<Call> {
+        let mut simpler = Vec::new();
+        let mut call = self.clone();
+        for index in 0..call.numbers().len() {
+            let number = *call.numbers()[index];
+            for smaller in smaller(number) {
+                *call.numbers()[index] = smaller;
+                simpler.push(call.clone());
+            }
+            *call.numbers()[index] = number;
+        }
+        for index in 0..call.buffers().len() {
+            let bytes = call.buffers()[index].clone();
+            for shorter in smaller(bytes.len()) {
+                *call.buffers()[index] = bytes[..shorter].to_vec();
+                simpler.push(call.clone());
+            }
+            if bytes.iter().any(|&byte| byte != 1) {
+                *call.buffers()[index] = vec![1; bytes.len()];
+                simpler.push(call.clone());
+            }
+            *call.buffers()[index] = bytes;
+        }
+        simpler
+    }
+
+    fn numbers(&mut self) -> Vec<&mut usize> {
+        match self {
+            Call::Down | Call::WritePage { .. } => vec![],
+            Call::Format { budget } | Call::Mount { budget } => vec![budget],
+            Call::Read { file, position, .. }
+            | Call::Write { file, position, .. }
+            | Call::Look { file, position } => vec![file, position],
+            Call::Truncate { file, n } | Call::WriteSize { file, n } | Call::Trim { file, n } => {
+                vec![file, n]
+            }
+            Call::Sync { file, budget } => vec![file, budget],
+            Call::TruncateSizes { n, .. } => vec![n],
+        }
+    }
+
+    fn buffers(&mut self) -> Vec<&mut Vec<u8>> {
+        match self {
+            Call::Read { buffer, .. } => vec![buffer],
+            Call::Write { bytes, .. } => vec![bytes],
+            Call::WritePage { page, bytes } => vec![page, bytes],
+            _ => vec![],
         }
     }
 
@@ -270,21 +342,88 @@ fn random_bytes(rng: &mut Rng, length: usize) -> Vec<u8> {
     bytes
 }
 
+/// Some smaller numbers, the smallest first.
+fn smaller(number: usize) -> impl Iterator<Item = usize> {
+    let numbers = [
+        0,
+        number / 2,
+        number - number / 8,
+        number - number / 64,
+        number.saturating_sub(1),
+    ];
+    numbers.into_iter().filter(move |&smaller| smaller < number)
+}
+
+impl fmt::Display for Call {
+    fn fmt(&self, f: &mut fmt::Formatter<'_>) -> fmt::Result {
+        write!(f, "{}", KINDS[self.kind()])?;
+        match self {
+            Call::Down => Ok(()),
+            Call::Format { budget } | Call::Mount { budget } => write!(f, ", budget {budget}"),
+            Call::Read {
+                file,
+                position,
+                buffer,
+            } => write!(
+                f,
+                " file {file}, position {position}, buffer of {}: {}",
+                buffer.len(),
+                Bytes(buffer)
+            ),
+            Call::Write {
+                file,
+                position,
+                bytes,
+            } => write!(
+                f,
+                " file {file}, position {position}, length {}: {}",
+                bytes.len(),
+                Bytes(bytes)
+            ),
+            Call::Truncate { file, n } | Call::WriteSize { file, n } | Call::Trim { file, n } => {
+                write!(f, " file {file}, to {n}")
+            }
+            Call::Sync { file, budget } => write!(f, " file {file}, budget {budget}"),
+            Call::Look { file, position } => write!(f, " file {file}, position {position}"),
+            Call::TruncateSizes {
+                record,
+                n,
+                greatest,
+            } => write!(f, " {record:?}, to {n}, greatest {greatest}"),
+            Call::WritePage { page, bytes } => write!(
+                f,
+                " of {}: {}, with {}: {}",
+                page.len(),
+                Bytes(page),
+                bytes.len(),
+                Bytes(bytes)
+            ),
+        }
+    }
+}
+
+/// Any number, with any number of bits.
+fn number(rng: &mut Rng) -> usize {
+    let shift = rng.below(64);
+    (rng.next_u64() >> shift) as usize
+}
+
 fn file(rng: &mut Rng) -> usize {
-    if rng.chance(95) {
-        rng.below(FILES)
-    } else {
-        rng.pick(&[8, 9, 256, 1 << 32, usize::MAX])
+    match rng.below(40) {
+        0 => number(rng),
+        1 => rng.pick(&[8, 9, 256, 1 << 32, usize::MAX]),
+        _ => rng.below(FILES),
     }
 }
 
 /// A position or a size: within a file, at the border of a page, at a limit or
 /// beyond.
 fn position(rng: &mut Rng) -> usize {
-    match rng.below(10) {
-        0..=5 => rng.below(FILE_MAX + 1),
-        6 | 7 => (rng.below(PAGES + 1) * PAGE + rng.below(3)).saturating_sub(1),
-        8 => 0,
+    match rng.below(20) {
+        0..=11 => rng.below(FILE_MAX + 1),
+        12..=15 => (rng.below(PAGES + 1) * PAGE + rng.below(3)).saturating_sub(1),
+        16 | 17 => 0,
+        18 => number(rng),
         _ => rng.pick(&[
             FILE_MAX,
             FILE_MAX + 1,
@@ -304,14 +443,17 @@ fn length(rng: &mut Rng) -> usize {
         3 | 4 => rng.below(600),
         5 => rng.below(17) * PAGE,
         6 => rng.below(FILE_MAX + 1),
+        // more than the count of an answer can tell
+        _ if rng.chance(4) => 65_536 + rng.below(PAGE),
         _ => rng.pick(&[1, 8, 12, FILE_MAX, FILE_MAX + 1, 5_000]),
     }
 }
 
 fn budget(rng: &mut Rng) -> usize {
-    match rng.below(4) {
-        0 => rng.below(4),
-        1 => rng.below(20),
+    match rng.below(8) {
+        0 | 1 => rng.below(4),
+        2 | 3 => rng.below(20),
+        4 => number(rng),
         _ => rng.pick(&[8, 18, 65_535, 65_536, 1 << 32, usize::MAX]),
     }
 }

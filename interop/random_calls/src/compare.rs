@@ -1,16 +1,25 @@
 //! Two stores side by side.
 
+use std::fmt;
+
 use random_sessions::rng::Rng;
-use reference::store::{PAGE, SLOTS};
 
 use crate::call::{Call, KINDS};
 use crate::memory::Memory;
+use crate::pair::Pair;
+use crate::shrink::shrink;
 use crate::store::Store;
 
-/// How often each call gave each answer.
+/// How often each call gave each answer, and on what memory.
 #[derive(Clone, Debug, Default, PartialEq, Eq)]
 pub struct Tally {
     answers: [[usize; 10]; KINDS.len()],
+    /// Calls on memory with a wrong length.
+    pub wrong_lengths: usize,
+    /// Calls on memory with right lengths and a sound state.
+    pub sound: usize,
+    /// Calls on memory with right lengths and a state that is not sound.
+    pub unsound: usize,
 }
 
 impl Tally {
@@ -23,6 +32,17 @@ impl Tally {
     /// All calls together.
     pub fn calls(&self) -> usize {
         self.answers.iter().flatten().sum()
+    }
+
+    /// Adds the counts of another.
+    pub fn add(&mut self, other: &Tally) {
+        let answers = self.answers.iter_mut().flatten();
+        for (mine, theirs) in answers.zip(other.answers.iter().flatten()) {
+            *mine += theirs;
+        }
+        self.wrong_lengths += other.wrong_lengths;
+        self.sound += other.sound;
+        self.unsound += other.unsound;
     }
 
     /// The answers that a store can give and that did not come up, as call and
@@ -52,77 +72,94 @@ impl Tally {
         }
         missing
     }
+
+    fn count(&mut self, memory: &Memory) {
+        let kind = match memory {
+            memory if !memory.has_right_lengths() => &mut self.wrong_lengths,
+            memory if memory.is_sound() => &mut self.sound,
+            _ => &mut self.unsound,
+        };
+        *kind += 1;
+    }
+}
+
+/// A call on which two stores differ, or the second one breaks a rule.
+pub struct Difference {
+    /// The seed of the calls.
+    pub seed: u64,
+    /// How many calls were made before it.
+    pub index: usize,
+    /// What is wrong.
+    pub what: String,
+    /// The memory before the call, made simpler where the difference stayed.
+    pub memory: Memory,
+    /// The call, made simpler alike.
+    pub call: Call,
+}
+
+impl fmt::Display for Difference {
+    fn fmt(&self, f: &mut fmt::Formatter<'_>) -> fmt::Result {
+        writeln!(f, "seed {}, call {}: {}", self.seed, self.index, self.what)?;
+        writeln!(f, "{}", self.call)?;
+        writeln!(f, "on")?;
+        write!(f, "{}", self.memory)
+    }
+}
+
+impl fmt::Debug for Difference {
+    fn fmt(&self, f: &mut fmt::Formatter<'_>) -> fmt::Result {
+        fmt::Display::fmt(self, f)
+    }
 }
 
 /// Calls on one memory before a new one is made.
 const CALLS: usize = 12;
 
-/// Makes at least `calls` random calls on both stores. Where they differ, says
-/// how: in the answer, in what they leave in the memory, or in a buffer of the
-/// call. The bytes of free slots may differ after a write or a truncate.
-pub fn compare<A: Store, B: Store>(seed: u64, calls: usize) -> Result<Tally, String> {
+/// Makes at least `calls` random calls on both stores, and tells the first on
+/// which [`Pair::call`] finds something wrong.
+pub fn compare<A: Store, B: Store>(seed: u64, calls: usize) -> Result<Tally, Box<Difference>> {
     let mut rng = Rng::new(seed);
     let mut tally = Tally::default();
     while tally.calls() < calls {
         let start = Memory::random(&mut rng);
-        let (mut one, mut two) = (start.clone(), start.clone());
+        let mut pair = Pair::new(&start);
         let mut made: Vec<Call> = Vec::new();
         for _ in 0..CALLS {
             let call = Call::random(&mut rng);
-            made.push(call.clone());
-            let (mut call_one, mut call_two) = (call.clone(), call);
-            let answer_one = call_one.run::<A>(&mut one);
-            let answer_two = call_two.run::<B>(&mut two);
-            let number = (answer_one.0 >> 16) as usize;
-            let what = if !same_answer(answer_one, answer_two) {
-                Some(format!("the answers {answer_one:x?} and {answer_two:x?}"))
-            } else if call_one != call_two {
-                Some("a buffer of the call".to_owned())
-            } else {
-                let changes_frames = matches!(call_one, Call::Write { .. } | Call::Truncate { .. });
-                different(&one, &two, changes_frames && number == 0)
-            };
-            if let Some(what) = what {
-                return Err(format!(
-                    "seed {seed}: {what} differ, after these calls: {made:?}\non sizes {:?}\nstate {:?}",
-                    start.sizes, start.state
-                ));
+            tally.count(pair.memory());
+            match pair.call::<A, B>(&call) {
+                Ok(answered) => tally.answers[call.kind()][answered.number()] += 1,
+                Err(what) => {
+                    let mut before = start;
+                    for call in &mut made {
+                        call.run::<A>(&mut before);
+                    }
+                    let index = tally.calls();
+                    return Err(simplest::<A, B>(seed, index, what, before, call));
+                }
             }
-            two.frames.clone_from(&one.frames);
-            match tally.answers[call_one.kind()].get_mut(number) {
-                Some(times) => *times += 1,
-                None => return Err(format!("seed {seed}: the answer {answer_one:x?}")),
-            }
+            pair.join();
+            made.push(call);
         }
     }
     Ok(tally)
 }
 
-/// A look that is done and finds no byte may name any place; a refused one has
-/// the word 0.
-fn same_answer(one: (u32, u64), two: (u32, u64)) -> bool {
-    let empty = |(answer, look): (u32, u64)| answer >> 16 == 0 && look & 65_535 == 0;
-    one == two || (one.0 == two.0 && empty(one) && empty(two))
-}
-
-/// What differs, if something does.
-fn different(one: &Memory, two: &Memory, free_frames: bool) -> Option<String> {
-    let what = if one.media != two.media {
-        "media"
-    } else if one.sizes != two.sizes {
-        "stored sizes"
-    } else if one.state != two.state {
-        "cache states"
-    } else if free_frames {
-        let slot = (0..SLOTS).find(|&slot| {
-            let bytes = slot * PAGE..(slot + 1) * PAGE;
-            one.state[1 + 3 * slot] == 1 && one.frames[bytes.clone()] != two.frames[bytes]
-        })?;
-        return Some(format!("the frames of slot {slot}"));
-    } else if one.frames != two.frames {
-        "frames"
-    } else {
-        return None;
-    };
-    Some(format!("the {what}"))
+/// The difference that this call shows, made simpler.
+fn simplest<A: Store, B: Store>(
+    seed: u64,
+    index: usize,
+    what: String,
+    memory: Memory,
+    call: Call,
+) -> Box<Difference> {
+    let wrong = |memory: &Memory, call: &Call| Pair::new(memory).call::<A, B>(call).err();
+    let (memory, call) = shrink(memory, call, |memory, call| wrong(memory, call).is_some());
+    Box::new(Difference {
+        seed,
+        index,
+        what: wrong(&memory, &call).unwrap_or(what),
+        memory,
+        call,
+    })
 }

@@ -5,11 +5,15 @@
 mod call;
 mod compare;
 mod memory;
+mod pair;
 mod reference_store;
+mod shrink;
 mod store;
+mod text;
 
 pub use call::Call;
-pub use compare::{compare, Tally};
-pub use memory::Memory;
-pub use reference_store::Reference;
+pub use compare::{compare, Difference, Tally};
+pub use memory::{fill, Memory};
+pub use pair::{Answered, Pair};
+pub use reference_store::{decode, encode, Reference};
 pub use store::Store;

@@ -1,9 +1,14 @@
 //! Random memory for calls.
 
-use random_sessions::rng::Rng;
-use reference::store::{CacheState, Slot, FILES, FILE_MAX, FRAMES_LEN, MEDIA_LEN, PAGES, SLOTS};
+use std::fmt;
 
-use crate::reference_store::{encode, STATE_LEN};
+use random_sessions::rng::Rng;
+use reference::store::{
+    CacheState, Slot, FILES, FILE_MAX, FRAMES_LEN, MEDIA_LEN, PAGE, PAGES, SLOTS,
+};
+
+use crate::reference_store::{decode, encode, STATE_LEN};
+use crate::text::Bytes;
 
 /// What a call of the store works on.
 #[derive(Clone, Debug, PartialEq, Eq)]
@@ -29,18 +34,74 @@ impl Memory {
         }
     }
 
-    /// Random memory: about half of the states are sound and up.
+    /// Random memory: about half of it is sound and up. The rest has one thing
+    /// wrong, or several, so that the order of the refusals shows.
     pub fn random(rng: &mut Rng) -> Memory {
         let mut memory = Memory::sound(rng);
-        match rng.weighted(&[10, 1, 4, 2, 2, 2]) {
+        match rng.weighted(&[12, 1, 4, 2]) {
             0 => {}
             1 => memory.state.fill(0),
             2 => memory.spoil_state(rng),
-            3 => memory.spoil_sizes(rng),
-            4 => memory.random_state(rng),
-            _ => memory.spoil_length(rng),
+            _ => memory.random_state(rng),
+        }
+        if rng.chance(12) {
+            memory.spoil_sizes(rng);
+        }
+        if rng.chance(12) {
+            memory.spoil_lengths(rng);
         }
         memory
+    }
+
+    /// Whether the four have the lengths that calls need.
+    pub fn has_right_lengths(&self) -> bool {
+        self.media.len() == MEDIA_LEN
+            && self.sizes.len() == FILES
+            && self.frames.len() == FRAMES_LEN
+            && self.state.len() == STATE_LEN
+    }
+
+    /// Whether the cache state is sound beside the stored sizes.
+    pub fn is_sound(&self) -> bool {
+        decode(&self.state).is_some_and(|state| state.is_sound(&self.sizes))
+    }
+
+    /// The number of ways to make memory simpler.
+    pub const SIMPLER: usize = 3 + 6 * FILES + 2 * SLOTS;
+
+    /// The memory with one thing made simpler, for each way another; nothing
+    /// where it is simple there already.
+    pub fn simpler(&self, way: usize) -> Option<Memory> {
+        let mut memory = self.clone();
+        let Memory {
+            media,
+            sizes,
+            frames,
+            state,
+        } = &mut memory;
+        let file = way % FILES;
+        let (logical, floor) = (73 + 4 * file, 105 + 4 * file);
+        let slot = way % SLOTS;
+        match way / FILES {
+            0 => clear(media, file * FILE_MAX, FILE_MAX),
+            1 => clear(sizes, file, 1),
+            2 => clear(state, floor, 4),
+            3 => {
+                clear(state, logical, 4);
+                clear(state, floor, 4);
+            }
+            4 => {
+                clear(sizes, file, 1);
+                clear(state, logical, 4);
+                clear(state, floor, 4);
+            }
+            5 if state.len() >= floor + 4 => state.copy_within(floor..floor + 4, logical),
+            5 => {}
+            6..=8 => clear(state, 1 + 3 * slot, 3),
+            9..=11 => clear(frames, slot * PAGE, PAGE),
+            _ => [media, frames, state][way % FILES].fill(0),
+        }
+        (memory != *self).then_some(memory)
     }
 
     /// Memory with a sound state that is up.
@@ -151,14 +212,67 @@ impl Memory {
         }
     }
 
-    /// Gives one of the four another length.
-    fn spoil_length(&mut self, rng: &mut Rng) {
-        match rng.below(4) {
-            0 => self.media.resize(other_length(rng, MEDIA_LEN), 1),
-            1 => self.sizes.resize(other_length(rng, FILES), 1),
-            2 => self.frames.resize(other_length(rng, FRAMES_LEN), 1),
-            _ => self.state.resize(other_length(rng, STATE_LEN), 0),
+    /// Gives one of the four another length, or several.
+    fn spoil_lengths(&mut self, rng: &mut Rng) {
+        loop {
+            match rng.below(4) {
+                0 => self.media.resize(other_length(rng, MEDIA_LEN), 1),
+                1 => self.sizes.resize(other_length(rng, FILES), 1),
+                2 => self.frames.resize(other_length(rng, FRAMES_LEN), 1),
+                _ => self.state.resize(other_length(rng, STATE_LEN), 0),
+            }
+            if rng.chance(80) {
+                return;
+            }
         }
+    }
+}
+
+/// The cache state decoded, and of the rest what is not 0.
+impl fmt::Display for Memory {
+    fn fmt(&self, f: &mut fmt::Formatter<'_>) -> fmt::Result {
+        writeln!(f, "  stored sizes {:?}", self.sizes)?;
+        match decode(&self.state) {
+            Some(state) => {
+                let mark = match state.mounted {
+                    0 => "down".to_owned(),
+                    1 => "mounted".to_owned(),
+                    other => format!("mark {other}"),
+                };
+                writeln!(f, "  state: {mark}")?;
+                writeln!(f, "    logical sizes {:?}", state.logical)?;
+                writeln!(f, "    floors {:?}", state.floor)?;
+                for (index, slot) in state.slots.iter().enumerate() {
+                    if *slot != Slot::FREE {
+                        let use_of = if slot.used { "file" } else { "free, file" };
+                        writeln!(
+                            f,
+                            "    slot {index}: {use_of} {} page {}",
+                            slot.file, slot.page
+                        )?;
+                    }
+                }
+            }
+            None => writeln!(f, "  state: {} bytes {:?}", self.state.len(), self.state)?,
+        }
+        for (name, bytes, piece) in [
+            ("media of file", &self.media, FILE_MAX),
+            ("frames of slot", &self.frames, PAGE),
+        ] {
+            for (index, bytes) in bytes.chunks(piece).enumerate() {
+                if bytes.iter().any(|&byte| byte != 0) {
+                    writeln!(f, "  {name} {index}: {}", Bytes(bytes))?;
+                }
+            }
+        }
+        write!(
+            f,
+            "  lengths: media {}, sizes {}, frames {}, state {}",
+            self.media.len(),
+            self.sizes.len(),
+            self.frames.len(),
+            self.state.len()
+        )
     }
 }
 
@@ -169,7 +283,17 @@ impl Default for Memory {
 }
 
 fn other_length(rng: &mut Rng, length: usize) -> usize {
-    rng.pick(&[0, 1, length - 1, length + 1, 2 * length])
+    match rng.below(6) {
+        0 => rng.below(2 * length),
+        _ => rng.pick(&[0, 1, length - 1, length + 1, 2 * length]),
+    }
+}
+
+/// Makes a part 0, where it is there.
+fn clear<T: Default + Clone>(values: &mut [T], start: usize, length: usize) {
+    if let Some(part) = values.get_mut(start..start + length) {
+        part.fill(T::default());
+    }
 }
 
 /// A size up to `limit`, often at a limit or at the border of a page.

@@ -12,9 +12,12 @@ pub const STATE_LEN: usize = 137;
 const LOGICAL: usize = 1 + 3 * SLOTS;
 const FLOOR: usize = LOGICAL + 4 * FILES;
 
-/// The state that these bytes tell; nothing where a slot is neither used nor
-/// free.
-fn decode(bytes: &[u8]) -> Option<CacheState> {
+/// The state that these bytes tell; nothing where they are not 137, or a slot
+/// is neither used nor free.
+pub fn decode(bytes: &[u8]) -> Option<CacheState> {
+    if bytes.len() != STATE_LEN {
+        return None;
+    }
     let number = |at: usize| {
         let bytes: [u8; 4] = bytes[at..at + 4].try_into().expect("four bytes");
         u32::from_le_bytes(bytes) as usize

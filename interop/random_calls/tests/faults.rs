@@ -1,11 +1,11 @@
 //! The comparison finds a store with a fault.
 
-use random_calls::{compare, Reference, Store};
+use random_calls::{compare, Call, Memory, Reference, Store};
 
 /// The reference, with one fault.
 struct Faulty<const FAULT: usize>;
 
-const FAULTS: usize = 12;
+const FAULTS: usize = 18;
 
 impl<const FAULT: usize> Store for Faulty<FAULT> {
     fn down(state: &mut [u8]) -> u32 {
@@ -43,7 +43,19 @@ impl<const FAULT: usize> Store for Faulty<FAULT> {
         position: usize,
         buffer: &mut [u8],
     ) -> u32 {
+        // MEDIA before SHAPE
+        if FAULT == 13 && sizes.iter().any(|&size| size > 4_096) {
+            return 3 << 16;
+        }
+        let position = if FAULT == 14 {
+            position as u32 as usize
+        } else {
+            position
+        };
         let answer = Reference::read(media, sizes, frames, state, file, position, buffer);
+        if FAULT == 15 && answer >> 16 == 7 {
+            buffer.fill(0);
+        }
         if FAULT == 4 && answer >> 16 == 0 && (answer as usize) < buffer.len() {
             buffer[answer as usize] = 0;
         }
@@ -79,6 +91,10 @@ impl<const FAULT: usize> Store for Faulty<FAULT> {
         n: usize,
     ) -> u32 {
         let before = frames.to_vec();
+        // BOOKS before MEDIA
+        if FAULT == 16 && sizes.len() == 8 && frames.len() == 6_144 && state.first() == Some(&2) {
+            return Reference::truncate(media, &[0; 8], frames, state, file, n);
+        }
         let answer = Reference::truncate(media, sizes, frames, state, file, n);
         if FAULT == 7 {
             frames.copy_from_slice(&before);
@@ -122,11 +138,14 @@ impl<const FAULT: usize> Store for Faulty<FAULT> {
         position: usize,
     ) -> u64 {
         let look = Reference::look(media, sizes, frames, state, file, position);
+        let answer = Self::look_count(media, sizes, frames, state, file, position);
+        let look_is_done = answer >> 16 == 0;
         match FAULT {
+            // a place that the media has not
+            17 if look & 65_535 == 0 && look_is_done => 40_000 << 32,
+            18 if look_is_done => look | 2 << 16,
             9 if look != 0 => look ^ 1 << 16,
-            10 if Self::look_count(media, sizes, frames, state, file, position) >> 16 != 0 => {
-                1 << 32
-            }
+            10 if !look_is_done => 1 << 32,
             _ => look,
         }
     }
@@ -158,6 +177,9 @@ impl<const FAULT: usize> Store for Faulty<FAULT> {
 fn a_store_equals_itself_and_gives_every_answer() {
     let tally = compare::<Reference, Faulty<0>>(1, 30_000).unwrap();
     assert!(tally.calls() >= 30_000);
+    let kinds = [tally.sound, tally.unsound, tally.wrong_lengths];
+    assert_eq!(kinds.iter().sum::<usize>(), tally.calls());
+    assert!(kinds.iter().all(|&kind| kind > 2_000), "{kinds:?}");
     assert_eq!(tally.missing(), []);
     assert!(tally.of("write")[8] > 0);
     assert_eq!(tally.of("write")[9], 0);
@@ -184,7 +206,53 @@ fn every_fault_is_found() {
         compare::<Reference, Faulty<10>>,
         compare::<Reference, Faulty<11>>,
         compare::<Reference, Faulty<12>>,
+        compare::<Reference, Faulty<13>>,
+        compare::<Reference, Faulty<14>>,
+        compare::<Reference, Faulty<15>>,
+        compare::<Reference, Faulty<16>>,
+        compare::<Reference, Faulty<17>>,
+        compare::<Reference, Faulty<18>>,
     ]
     .map(|compare| compare(1, 30_000).is_err());
     assert_eq!(found, [true; FAULTS]);
+}
+
+/// What a refusal has to leave and what a look may name, without another store
+/// that is right.
+#[test]
+fn some_faults_are_found_beside_themselves() {
+    let found = [
+        compare::<Faulty<6>, Faulty<6>>,
+        compare::<Faulty<15>, Faulty<15>>,
+        compare::<Faulty<17>, Faulty<17>>,
+        compare::<Faulty<18>, Faulty<18>>,
+    ]
+    .map(|compare| compare(1, 30_000).is_err());
+    assert_eq!(found, [true; 4]);
+}
+
+#[test]
+fn a_difference_is_told_in_its_simplest_form() {
+    let difference = compare::<Reference, Faulty<4>>(1, 30_000).unwrap_err();
+    // one byte too many in the buffer, on a store that is up
+    let mut memory = Memory::new();
+    memory.state[0] = 1;
+    assert_eq!(difference.memory, memory);
+    let Call::Read {
+        position: 0,
+        file: 0,
+        buffer,
+    } = &difference.call
+    else {
+        panic!("{difference}");
+    };
+    assert_eq!(buffer.len(), 1);
+    let text = difference.to_string();
+    assert!(text.starts_with("seed 1, call "), "{text}");
+    assert!(text.contains("the buffers of the call differ"), "{text}");
+    assert!(
+        text.contains("read file 0, position 0, buffer of 1: "),
+        "{text}"
+    );
+    assert!(text.contains("  state: mounted\n"), "{text}");
 }

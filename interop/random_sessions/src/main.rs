@@ -1,15 +1,14 @@
 //! Compares a session program with the reference on random sessions.
 
-use std::collections::hash_map::RandomState;
-use std::hash::{BuildHasher, Hasher};
 use std::io::{self, BufWriter, Write};
 use std::path::Path;
 use std::process::ExitCode;
-use std::time::{Duration, Instant, SystemTime};
+use std::time::{Duration, Instant};
 
 use random_sessions::compare::compare_seed;
 use random_sessions::generate::Generator;
 use random_sessions::program::Executable;
+use random_sessions::rng::fresh_seed;
 use random_sessions::tally::Tally;
 
 const HELP: &str = "\
@@ -117,14 +116,6 @@ fn parse(arguments: &[String]) -> Result<Task, String> {
             _ => Err("one --seed is needed".to_owned()),
         }
     }
-}
-
-/// A seed that is new each time.
-fn fresh_seed() -> u64 {
-    let mut hasher = RandomState::new().build_hasher();
-    let now = SystemTime::now().duration_since(SystemTime::UNIX_EPOCH);
-    hasher.write_u128(now.map_or(0, |time| time.as_nanos()));
-    hasher.finish()
 }
 
 /// Compares on all seeds; true if there is no difference.
@@ -306,10 +297,5 @@ mod tests {
         let mut other = Vec::new();
         print(4, 5000, &mut other).unwrap();
         assert_ne!(first, other);
-    }
-
-    #[test]
-    fn fresh_seeds_differ() {
-        assert_ne!(fresh_seed(), fresh_seed());
     }
 }

@@ -1,5 +1,18 @@
 //! A small deterministic generator of random numbers.
 
+use std::collections::hash_map::RandomState;
+use std::hash::{BuildHasher, Hasher};
+use std::time::SystemTime;
+
+/// A seed that is new each time.
+pub fn fresh_seed() -> u64 {
+    let mut hasher = RandomState::new().build_hasher();
+    let now = SystemTime::now().duration_since(SystemTime::UNIX_EPOCH);
+    hasher.write_u128(now.map_or(0, |time| time.as_nanos()));
+    hasher.write_u32(std::process::id());
+    hasher.finish()
+}
+
 /// Xoshiro256**, seeded through splitmix64.
 #[derive(Clone, Debug)]
 pub struct Rng {
@@ -79,6 +92,11 @@ mod tests {
         assert_eq!(draw(7), draw(7));
         assert_ne!(draw(7), draw(8));
         assert_ne!(draw(0), draw(1));
+    }
+
+    #[test]
+    fn fresh_seeds_differ() {
+        assert_ne!(fresh_seed(), fresh_seed());
     }
 
     #[test]

@@ -1,0 +1,112 @@
+//! Makes a history that shows a fault shorter and simpler.
+
+use std::time::{Duration, Instant};
+
+use random_calls::Memory;
+
+use crate::history::{History, Step};
+
+/// The longest that it may take.
+const TIME: Duration = Duration::from_secs(10);
+
+/// Simplifies as long as `fails` tells a step; the steps after that are left
+/// out.
+pub fn shrink(history: History, fails: impl Fn(&History) -> Option<usize>) -> History {
+    let mut shrinker = Shrinker {
+        best: history,
+        fails,
+        deadline: Instant::now() + TIME,
+    };
+    shrinker.accepts(shrinker.best.clone());
+    loop {
+        let before = shrinker.best.clone();
+        shrinker.simplify_start();
+        shrinker.remove_steps();
+        shrinker.simplify_calls();
+        if shrinker.best == before || Instant::now() >= shrinker.deadline {
+            return shrinker.best;
+        }
+    }
+}
+
+struct Shrinker<F> {
+    /// The simplest history so far that fails.
+    best: History,
+    fails: F,
+    deadline: Instant,
+}
+
+impl<F: Fn(&History) -> Option<usize>> Shrinker<F> {
+    /// Takes a simpler history if it fails too.
+    fn accepts(&mut self, mut history: History) -> bool {
+        if Instant::now() >= self.deadline {
+            return false;
+        }
+        let Some(step) = (self.fails)(&history) else {
+            return false;
+        };
+        history.steps.truncate(step + 1);
+        self.best = history;
+        true
+    }
+
+    /// A formatted box, or one with less in it.
+    fn simplify_start(&mut self) {
+        if self.best.format {
+            return;
+        }
+        let formatted = History {
+            start: Memory::new(),
+            format: true,
+            ..self.best.clone()
+        };
+        if self.accepts(formatted) {
+            return;
+        }
+        for way in 0..Memory::SIMPLER {
+            if let Some(start) = self.best.start.simpler(way) {
+                let steps = self.best.steps.clone();
+                self.accepts(History {
+                    start,
+                    format: false,
+                    steps,
+                });
+            }
+        }
+    }
+
+    /// Removes runs of steps, long ones first.
+    fn remove_steps(&mut self) {
+        let mut size = self.best.steps.len();
+        while size > 0 {
+            let mut start = 0;
+            while start < self.best.steps.len() {
+                let end = (start + size).min(self.best.steps.len());
+                let mut history = self.best.clone();
+                history.steps.drain(start..end);
+                if !self.accepts(history) {
+                    start = end;
+                }
+            }
+            size /= 2;
+        }
+    }
+
+    fn simplify_calls(&mut self) {
+        let mut index = 0;
+        while index < self.best.steps.len() {
+            let simpler = match &self.best.steps[index] {
+                Step::Call(call) => call.simpler(),
+                Step::PowerLoss { .. } => Vec::new(),
+            };
+            let taken = simpler.into_iter().any(|call| {
+                let mut history = self.best.clone();
+                history.steps[index] = Step::Call(call);
+                self.accepts(history)
+            });
+            if !taken {
+                index += 1;
+            }
+        }
+    }
+}

@@ -1,0 +1,80 @@
+//! Makes a call that shows a difference simpler, and the memory it is made on.
+
+use crate::call::Call;
+use crate::memory::Memory;
+
+/// Most tries.
+const TRIES: usize = 5_000;
+
+/// Simplifies as long as `fails` holds of what is simpler.
+pub fn shrink(
+    mut memory: Memory,
+    mut call: Call,
+    fails: impl Fn(&Memory, &Call) -> bool,
+) -> (Memory, Call) {
+    let mut tries = 0;
+    loop {
+        let mut found = false;
+        for change in 0..Memory::SIMPLER {
+            let Some(simpler) = memory.simpler(change) else {
+                continue;
+            };
+            tries += 1;
+            if fails(&simpler, &call) {
+                memory = simpler;
+                found = true;
+            }
+        }
+        while let Some(simpler) = call
+            .simpler()
+            .into_iter()
+            .inspect(|_| tries += 1)
+            .find(|simpler| fails(&memory, simpler))
+        {
+            call = simpler;
+            found = true;
+            if tries > TRIES {
+                break;
+            }
+        }
+        if !found || tries > TRIES {
+            return (memory, call);
+        }
+    }
+}
+
+#[cfg(test)]
+mod tests {
+    use super::*;
+    use random_sessions::rng::Rng;
+
+    #[test]
+    fn keeps_what_the_failure_needs() {
+        let mut rng = Rng::new(5);
+        let memory = std::iter::repeat_with(|| Memory::random(&mut rng))
+            .find(|memory| memory.has_right_lengths() && memory.is_sound() && memory.sizes[3] > 7)
+            .unwrap();
+        let call = Call::Write {
+            file: 6,
+            position: 1_000,
+            bytes: (0..200).collect(),
+        };
+        let (memory, call) = shrink(memory, call, |memory, call| {
+            memory.sizes[3] > 7
+                && memory.state[0] == 1
+                && matches!(call, Call::Write { position, bytes, .. } if *position >= 300 && bytes.len() > 2)
+        });
+        let mut small = Memory::new();
+        small.sizes[3] = memory.sizes[3];
+        small.state[0] = 1;
+        assert_eq!(memory, small);
+        assert_eq!(
+            call,
+            Call::Write {
+                file: 0,
+                position: 300,
+                bytes: vec![1; 3],
+            }
+        );
+    }
+}
