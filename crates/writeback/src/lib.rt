@@ -234,17 +234,31 @@ fn max(a: u8, b: u8) -> u8
     if a <= b { b } else { a }
 }
 
-// Whether all bytes are 0. The loop goes to the end, and takes the greatest, so that it becomes vector code.
+// The greatest of the bytes, or 0 where there are none. The loop goes to the end, so that it becomes vector code.
+fn greatest(bytes: &[u8]) -> u8
+    ensures { λ r. ⌜ eqb r 0 ≡ every (λ b. eqb b 0) (now (bytes .entry)) ⌝ }
+{
+    let mut most = 0u8;
+    let mut i = 0;
+    while i < bytes.len() {
+        most = max(most, bytes[i]);
+        i += 1;
+    }
+    most
+}
+
+// Whether all bytes are 0. A page at a time, since a loop of a known length is faster.
 fn is_zero(bytes: &[u8]) -> bool
     ensures { λ r. ⌜ r ≡ every (λ b. eqb b 0) (now (bytes .entry)) ⌝ }
 {
-    let mut greatest = 0u8;
-    let mut i = 0;
-    while i < bytes.len() {
-        greatest = max(greatest, bytes[i]);
-        i += 1;
+    let mut most = 0u8;
+    let mut from = 0;
+    while media::PAGE_BYTES <= bytes.len() - from {
+        let to = from + media::PAGE_BYTES;
+        most = max(most, greatest(&bytes[from..to]));
+        from = to;
     }
-    greatest == 0
+    max(most, greatest(&bytes[from..])) == 0
 }
 
 // Whether a file has a nonzero byte at or past n.
