@@ -10,11 +10,21 @@
  *   state    137 bytes      the cache state, laid out as said below
  *
  * media and sizes stand for what survives a loss of power; frames and state do not survive it. After one, make the state down
- * (boxstore_down) and mount.
+ * (boxstore_down) and mount. The mount then finds each file as its last completed sync left it, followed by a first part of the
+ * bytes of each later write, from none to all, and each later truncate carried out or left out. That presumes of the part behind
+ * media and sizes that it takes over each media write whole or not at all, and in order: PAGE (256 bytes of a file), SIZE (one
+ * stored size), TRIM (zeros to the end of a file, and its stored size). The calls write these to memory byte by byte; power that goes
+ * amid a call then leaves on the part what CUT leaves there at some budget. And nothing else may alter media, sizes, frames or
+ * state between the calls.
  *
  * Every call ends on every input: all numbers, lengths and contents are allowed. It writes only to what it is lent without
  * `const`. What the C compiler cannot check is asked of the caller: a pointer is not null (not even beside the length 0), is
  * aligned for its type, and has that many elements behind it; and what a call may write overlaps nothing else that it is lent.
+ * Calls on different memory may run at the same time; on the same memory one call must end before the next begins, in an
+ * interrupt too.
+ *
+ * The archive is for x86-64: size_t has 8 bytes. It needs nothing but memcpy and memset. sizes are numbers of the machine; the sizes
+ * inside the state have their low byte first on every machine.
  *
  * The answer is one word, 65,536 * number + count. Number 0 is done, so a done call answers its count, below
  * BOXSTORE_REFUSED. Otherwise the number says why the call was refused, and is the first of these that applies:
@@ -52,7 +62,12 @@
 extern "C" {
 #endif
 
+/* size_t has 8 bytes. */
+typedef char boxstore_size_t_has_8_bytes[sizeof(size_t) == 8 ? 1 : -1];
+
 #define BOXSTORE_FILES 8
+#define BOXSTORE_PAGE_BYTES 256
+#define BOXSTORE_SLOTS 24
 #define BOXSTORE_FILE_BYTES 4096
 #define BOXSTORE_MEDIA_BYTES 32768
 #define BOXSTORE_FRAMES_BYTES 6144
@@ -80,6 +95,13 @@ enum boxstore_answer {
 /* The number of an answer, and its count. */
 static inline unsigned boxstore_number(uint32_t answer) { return answer >> 16; }
 static inline size_t boxstore_count(uint32_t answer) { return answer & 65535u; }
+
+/* The logical size of a file, 0 to 7, as read and write see it: of a state that a call left, with 137 bytes. */
+static inline size_t boxstore_logical_size(const uint8_t *state, size_t file)
+{
+    const uint8_t *at = state + 73 + 4 * file;
+    return (size_t)at[0] | (size_t)at[1] << 8 | (size_t)at[2] << 16 | (size_t)at[3] << 24;
+}
 
 /* Down: the state becomes the down state, as at the start and after a loss of power. Answers 0, or SHAPE. */
 uint32_t boxstore_down(uint8_t *state, size_t state_len);
@@ -123,9 +145,10 @@ uint32_t boxstore_look_count(const uint8_t *media, size_t media_len, const uint3
                              size_t file, size_t position);
 
 /* Look: where the bytes from the position on lie, to the end of its page at most, without a copy. One word:
- * 2^32 * offset + 65,536 * source + count, source 0 for the media and 1 for the frames. On a refusal the word is 0. Else its count
- * is 0 at or past the logical size, and in zeros that no buffer has. Where it is less than the count of boxstore_look_count, the
- * rest are zeros. */
+ * 2^32 * offset + 65,536 * source + count, source 0 for the media and 1 for the frames. On a refusal the word is 0, which may also
+ * be a look that is done and empty: boxstore_look_count tells them apart. The count is 0 at or past the logical size, and in zeros
+ * that no buffer has. Where it is less than the count of boxstore_look_count, the rest are zeros. The part is good until the next
+ * write, truncate, sync, mount or format. */
 uint64_t boxstore_look(const uint8_t *media, size_t media_len, const uint32_t *sizes, size_t sizes_len,
                        const uint8_t *frames, size_t frames_len, const uint8_t *state, size_t state_len,
                        size_t file, size_t position);

@@ -1,6 +1,6 @@
 -- The calls as a caller makes them that links the library: on numbers and slices, with the cache state as bytes, answered by a word.
 use Prim.Native.Nat.{ℕ, _+_, _*_}
-use mathlib.Core.Bool.{cond, _||_}
+use mathlib.Core.Bool.{Bool, cond, _||_}
 use mathlib.Core.List.{List, [], _∷_}
 use lib.Dec.{eqb}
 use lib.ListN.{length, getD}
@@ -52,9 +52,13 @@ deviceIn l = deviceOf (l .media) (l .frames) (decode (l .state))
 unfoldable pub stateShape : List ℕ → List Test
 stateShape state = test (eqb (length state) stateBytes) SHAPE ∷ []
 
--- the bytes after a call: the state that it leaves where it is done or cut; as they came on any other refusal
+-- done or cut: the answers of calls that leave a state of their own
+abbrev pub leavesState : Coded → Bool
+leavesState a = eqb (a .number) 0 || eqb (a .number) 9
+
+-- the bytes after a call: the state that it leaves, or as they came
 unfoldable pub stateAfter : Coded → CacheState → List ℕ → List ℕ
-stateAfter a s before = cond (eqb (a .number) 0 || eqb (a .number) 9) (encode s) before
+stateAfter a s before = cond (leavesState a) (encode s) before
 
 -- ---- the calls
 

@@ -1,28 +1,36 @@
 -- What a linked caller is promised. On the bytes of a state a call does what it does on the device, and leaves the bytes of the
--- state that it leaves there: so whatever is proved of lists of calls holds of a linked caller's. A refusal of the first eight
--- leaves every byte, whatever the bytes were. Two answers with one word are one answer.
+-- state that it leaves there: so whatever is proved of lists of calls holds of a linked caller's. On any bytes, a call that is
+-- done or cut leaves the bytes of its state, and a refusal of the first eight leaves every byte. A word tells its answer.
 use mathlib.Core.Path.{_≡_}
 use mathlib.Core.Logic.{_≢_}
+use mathlib.Core.Bool.{true}
 use mathlib.Core.List.{List}
 use Prim.Native.Nat.{ℕ, _<_}
+use lib.ListN.{length}
 use Rattle.answer.specs.Coded.{Coded}
 use Rattle.media.specs.Write.{Media}
 use Rattle.device.specs.declared.CacheState.{CacheState}
+use Rattle.device.specs.declared.Span.{Span}
 use Rattle.device.specs.Device.{Device, deviceOf}
 use Rattle.device.specs.Admission.{Result, give}
+use Rattle.device.specs.Reading.{read}
+use Rattle.device.specs.Looking.{lookCount, lookSpan}
 use Rattle.device.specs.Writing.{write}
 use Rattle.device.specs.Truncating.{truncate}
 use Rattle.device.specs.Syncing.{sync}
 use Rattle.device.specs.Mounting.{mount, format}
-use Rattle.state_bytes.specs.Encoding.{encode}
+use Rattle.state_bytes.specs.Encoding.{stateBytes, encode}
 use Rattle.state_bytes.specs.Inverse.{Shaped}
-use Rattle.boxstore.specs.Interface.{wordOf, Lent, lent, onBytes}
+use Rattle.boxstore.specs.Interface.{wordOf, Lent, lent, deviceIn, leavesState, onBytes, readBytes, lookCountBytes, spanWord, lookWord}
 
 pub record OnBytes (call : Device → Result Device) : Type 0 where
   pub same : (m : Media) (frames : List ℕ) (s : CacheState) → Shaped s → let r : Result Device = call (deviceOf m frames s) in
       onBytes call (lent m frames (encode s)) ≡ give (r .answer) (lent (r .left .media) (r .left .frames) (encode (r .left .cache)))
+  pub any : (l : Lent) → length (l .state) ≡ stateBytes → let r : Result Device = call (deviceIn l) in
+      leavesState (r .answer) ≡ true → onBytes call l ≡ give (r .answer) (lent (r .left .media) (r .left .frames) (encode (r .left .cache)))
   pub shaped : (d : Device) → Shaped (d .cache) → Shaped (call d .left .cache)
   pub refused : (l : Lent) → onBytes call l .answer .number ≢ 0 → onBytes call l .answer .number ≢ 9 → onBytes call l .left ≡ l
+  pub small : (l : Lent) → onBytes call l .answer .count < 65536
 
 -- P is the number of pages in a file
 pub record Linked (P : ℕ) : Type 0 where
@@ -31,4 +39,11 @@ pub record Linked (P : ℕ) : Type 0 where
   pub syncing : (f budget : ℕ) → OnBytes (sync P f budget)
   pub mounting : (budget : ℕ) → OnBytes (mount P budget)
   pub formatting : (budget : ℕ) → OnBytes (format P budget)
+  pub reading : (f position : ℕ) (buffer : List ℕ) (m : Media) (frames : List ℕ) (s : CacheState) → Shaped s
+      → readBytes P f position buffer (lent m frames (encode s)) ≡ read P f position buffer (deviceOf m frames s)
+  pub counting : (f position : ℕ) (m : Media) (frames : List ℕ) (s : CacheState) → Shaped s
+      → lookCountBytes P f position (lent m frames (encode s)) ≡ lookCount P f position (deviceOf m frames s)
+  pub looking : (f position : ℕ) (m : Media) (frames : List ℕ) (s : CacheState) → Shaped s
+      → lookWord P f position (lent m frames (encode s)) ≡ spanWord (lookSpan P f position (deviceOf m frames s))
+  pub spans : (s t : Span) → s .count < 65536 → t .count < 65536 → spanWord s ≡ spanWord t → s ≡ t
   pub words : (a b : Coded) → a .count < 65536 → b .count < 65536 → wordOf a ≡ wordOf b → a ≡ b

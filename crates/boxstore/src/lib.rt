@@ -1,7 +1,6 @@
 // The store for callers that are not written in Rattle: each call on numbers and slices, with the cache state as bytes.
 //
-// interop/boxstore.h is this interface for C. specs/Interface.antt says what each call gives. A slice goes as a pointer and a number
-// of elements; the pointer is not null, and what may be written overlaps nothing else that is lent.
+// interop/boxstore.h is this interface for C, with what it asks of its caller. specs/Interface.antt says what each call gives.
 //
 // An answer is one word, 65,536 × number + count. Number 0 is done, so a done call answers its count.
 use answer::Answer;
@@ -9,10 +8,8 @@ use cache::FileSizes;
 use cache::Outcome;
 use cache::Span;
 ghost use mathlib.Core.Path.{_≡_};
-ghost use mathlib.Core.Bool.{_||_};
 ghost use mathlib.Core.List.{List};
 ghost use Prim.Native.Nat.{ℕ, _<_};
-ghost use lib.Dec.{eqb};
 ghost use lib.ListN.{length};
 ghost use Rattle.answer.specs.Coded.{coded};
 ghost use Rattle.media.specs.Geometry.{pagesPerFile};
@@ -23,7 +20,7 @@ ghost use Rattle.device.specs.Truncating.{truncate};
 ghost use Rattle.device.specs.Syncing.{sync};
 ghost use Rattle.device.specs.Mounting.{mount, format};
 ghost use Rattle.state_bytes.specs.Encoding.{stateBytes};
-ghost use Rattle.boxstore.specs.Interface.{wordOf, reply, inWord, lent, stateAfter, onBytes, readBytes, lookCountBytes, spanWord, lookWord, downBytes, truncateSizes};
+ghost use Rattle.boxstore.specs.Interface.{wordOf, reply, inWord, lent, leavesState, stateAfter, onBytes, readBytes, lookCountBytes, spanWord, lookWord, downBytes, truncateSizes};
 
 // SHAPE as a word.
 const SHAPE: u32 = 131072;
@@ -40,7 +37,7 @@ fn answer_word(a: Answer) -> u32
 
 // Whether a call with this answer leaves a state of its own: done or cut.
 fn leaves_state(a: Answer) -> bool
-    ensures { λ r. ⌜ r ≡ eqb ((coded a) .number) 0 || eqb ((coded a) .number) 9 ⌝ }
+    ensures { λ r. ⌜ r ≡ leavesState (coded a) ⌝ }
 {
     let number = answer::number(a);
     if number == 0 {

@@ -1,5 +1,6 @@
 -- The layout written and read is inverse.
 use mathlib.Core.Path.{_≡_, refl, sym, ap, _∙_}
+use mathlib.Core.Logic.{_≢_}
 use mathlib.Core.Bool.{Bool, true, false, cond}
 use mathlib.Core.List.{List, [], _∷_, _++_, append-nil}
 use Prim.Native.Nat.{ℕ, zero, suc, _+_, _*_, _/_, _%_, _≤_, _<_}
@@ -201,5 +202,9 @@ nothing : (P : ℕ) (stored bytes : List ℕ) → isState bytes ≡ false → is
 unfolding decode isSound soundTests
 nothing P stored bytes h = cases (eqb (length bytes) stateBytes) (λ e. rw (e, h)) (λ e. rw e)
 
+other : (P : ℕ) (stored bytes : List ℕ) → length bytes ≢ stateBytes → isSound P stored (decode bytes) ≡ false
+unfolding decode isSound soundTests
+other P stored bytes n = rw (ne-eqb (length bytes) stateBytes n)
+
 pub inverse : Inverse
-inverse = record { there-and-back = back; back-and-there = there; no-state = nothing }
+inverse = record { there-and-back = back; back-and-there = there; no-state = nothing; other-length = other }
