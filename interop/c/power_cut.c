@@ -162,8 +162,7 @@ static void look_at_file_1(void)
     expect("write 1 byte to file 1", write_file(1, 10, (const uint8_t *)"C", 1), BOXSTORE_DONE, 1);
     at = look(1, 10);
     require("the look is in the frames, and sees the byte", boxstore_looked_len(at) == 246
-            && boxstore_looked_at(at, media, frames) >= frames
-            && boxstore_looked_at(at, media, frames) < frames + sizeof frames
+            && (at >> 16 & 1) == 1 && at >> 32 < sizeof frames
             && *boxstore_looked_at(at, media, frames) == 'C');
     expect("truncate file 1 to 2,000", truncate_file(1, 2000), BOXSTORE_DONE, 0);
     expect("look at 1,000 of file 1: count", look_count(1, 1000), BOXSTORE_DONE, 24);
@@ -198,12 +197,35 @@ static void refusals(void)
     expect("write 1 byte to file 5", write_file(5, 0, &byte, 1), BOXSTORE_DONE, 1);
 }
 
+/* The media writes and the truncate rule by themselves. */
+static void parts(void)
+{
+    uint32_t record[3] = {300, 100, 200};
+    static const uint8_t page[BOXSTORE_PAGE_BYTES] = {9};
+
+    expect("truncate rule: 300, 100, 200 to 50", boxstore_truncate_sizes(record, 3, 50, BOXSTORE_FILE_BYTES), BOXSTORE_DONE, 0);
+    require("logical size and floor are 50", record[0] == 50 && record[1] == 50 && record[2] == 200);
+    expect("BOOKS: a floor above the logical size", boxstore_truncate_sizes(record, 3, 0, 49), BOXSTORE_BOOKS, 0);
+    expect("PAGE: the last page of file 6",
+           boxstore_write_page(media + 7 * BOXSTORE_FILE_BYTES - BOXSTORE_PAGE_BYTES, BOXSTORE_PAGE_BYTES, page, sizeof page),
+           BOXSTORE_DONE, 0);
+    require("it is there", media[7 * BOXSTORE_FILE_BYTES - BOXSTORE_PAGE_BYTES] == 9);
+    expect("SIZE: file 6 has 4,096 bytes", boxstore_write_size(media, sizeof media, sizes, BOXSTORE_FILES, 6, 4096), BOXSTORE_DONE, 0);
+    require("its stored size is 4,096", sizes[6] == 4096);
+    expect("RANGE: SIZE of 4,097", boxstore_write_size(media, sizeof media, sizes, BOXSTORE_FILES, 6, 4097), BOXSTORE_RANGE, 0);
+    expect("TRIM: file 6 to 1 byte", boxstore_trim(media, sizeof media, sizes, BOXSTORE_FILES, 6, 1), BOXSTORE_DONE, 0);
+    require("zeros follow, and its stored size is 1", media[7 * BOXSTORE_FILE_BYTES - BOXSTORE_PAGE_BYTES] == 0 && sizes[6] == 1);
+    expect("RANGE: TRIM to 2 bytes", boxstore_trim(media, sizeof media, sizes, BOXSTORE_FILES, 6, 2), BOXSTORE_RANGE, 0);
+    require("the logical size of file 0 is 12", boxstore_logical_size(state, 0) == 12);
+}
+
 int main(void)
 {
     serial();
     sync_that_is_cut();
     look_at_file_1();
     refusals();
+    parts();
     puts("power_cut: all as expected");
     return 0;
 }

@@ -131,7 +131,7 @@ fn run(options: &Options, out: &mut impl Write) -> io::Result<()> {
 
     writeln!(
         out,
-        "| scenario | calls/s proved | calls/s tuned | time, proved / tuned | bytes/s proved | time, proved / floor |"
+        "| scenario | calls/s proved | calls/s tuned | time, proved / tuned | bytes/s proved | time, proved / plain copy |"
     )?;
     writeln!(out, "|---|--:|--:|--:|--:|--:|")?;
     let mut proved = Vec::new();
@@ -153,8 +153,9 @@ fn run(options: &Options, out: &mut impl Write) -> io::Result<()> {
     }
     writeln!(
         out,
-        "\nThe media are memory, on both sides. The floor is a plain copy of the bytes that the calls move: those between \
-         caller and store, pages written to the media, bytes that a trim clears, and bytes that a mount has to look at. \
+        "\nThe media are memory, on both sides. The plain copy is of the bytes that the calls move: those between \
+         caller and store, pages written to the media, bytes that a trim clears, and bytes that a mount has to look at (to \
+         clear or to look at is less work than to copy). \
          Medians of {} rounds of {} ms.\n",
         options.effort.rounds,
         options.effort.round.as_millis(),
@@ -274,7 +275,7 @@ fn copies(scenario: &Scenario) -> Vec<usize> {
     copies.flat_map(|&step| run.copies::<Tuned>(step)).collect()
 }
 
-/// The floor: the copies, and nothing else.
+/// The plain copy, and nothing else.
 #[inline(never)]
 fn plain_copies(copies: &[usize], from: &[u8], to: &mut [u8], passes: usize) {
     for _ in 0..passes {
@@ -355,18 +356,17 @@ fn table_of_others(
     }
     writeln!(
         out,
-        "| scenario | kept by | calls/s | bytes/s | time, over the proved store |"
+        "| scenario | kept by | passes/s | time, over the proved store |"
     )?;
-    writeln!(out, "|---|---|--:|--:|--:|")?;
+    writeln!(out, "|---|---|--:|--:|")?;
     for (start, pass) in OTHER_SCENARIOS {
         let Some((name, row)) = proved.iter().find(|(name, _)| name.starts_with(start)) else {
             continue;
         };
         writeln!(
             out,
-            "| {name} | the proved store, in memory | {} | {} | 1 |",
-            scaled(row.calls / row.proved),
-            row.bytes_per_second(),
+            "| {name} | the proved store, in memory | {} | 1 |",
+            scaled(1.0 / row.proved),
         )?;
         for (kept_by, other) in others.iter_mut() {
             let Some(other) = other else {
@@ -380,9 +380,8 @@ fn table_of_others(
             let time = median(&measure(&mut sides, effort)[0]);
             writeln!(
                 out,
-                "| | {kept_by} | {} | {} | {} |",
-                scaled(row.calls / time),
-                scaled(row.bytes / time),
+                "| | {kept_by} | {} | {} |",
+                scaled(1.0 / time),
                 scaled(time / row.proved),
             )?;
             out.flush()?;
@@ -391,9 +390,10 @@ fn table_of_others(
     writeln!(
         out,
         "\nThe others keep their files on a RAM disk (/dev/shm) and make system calls; the store makes none, and its media \
-         here are memory. So this compares what they cost beside the disk, and not the disk. A call is one of the store's, \
-         or what stands for it. LMDB has its usual settings, SQLite journal_mode=WAL and synchronous=FULL. pwrite with \
-         fdatasync is not safe against a torn write; the others are."
+         here are memory. So this compares what they cost beside the disk, and not the disk. A pass is the calls of the \
+         scenario once over. LMDB has its usual settings, SQLite journal_mode=WAL and synchronous=FULL. pwrite with \
+         fdatasync is not safe against a torn write, LMDB and SQLite are; the store presumes that the part does each page whole \
+         or not at all."
     )
 }
 

@@ -100,8 +100,7 @@ mod tests {
             effort,
         );
         assert_eq!(times.iter().map(Vec::len).collect::<Vec<_>>(), [4, 4]);
-        // the first takes no time
-        assert!(first > MOST && second > 4);
+        assert!(first > 4 && second > 4);
         assert!(times[1].iter().all(|&time| time > 1e-6));
     }
 }

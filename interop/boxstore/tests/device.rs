@@ -337,3 +337,18 @@ fn debug_is_short() {
         "Device { mounted: false, logical: [], stored: [0, 0, 0, 0, 0, 0, 0, 0], cached_pages: 0, .. }"
     );
 }
+
+#[test]
+fn len_and_read_all_are_refused_as_a_read_is() {
+    let mut sizes = [0; FILES];
+    sizes[7] = 4097;
+    let mut device = Device::from_media(vec![0; MEDIA_BYTES], sizes).unwrap();
+    assert_eq!(device.read(0, 0, &mut []), Err(Error::Media));
+    assert_eq!(device.len(0), Err(Error::Media));
+    assert_eq!(device.read_all(0), Err(Error::Media));
+    device = Device::new();
+    assert_eq!(device.len(8), Err(Error::Down));
+    device.mount(MOUNT_WRITES).unwrap();
+    assert_eq!(device.len(8), Err(Error::NoFile));
+    assert_eq!(device.read_all(8), Err(Error::NoFile));
+}
