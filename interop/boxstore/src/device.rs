@@ -2,7 +2,7 @@
 
 use std::fmt;
 
-use crate::{raw, Error, FILES, FRAMES_BYTES, MEDIA_BYTES, SLOTS, STATE_BYTES};
+use crate::{raw, Error, FILES, FILE_BYTES, FRAMES_BYTES, MEDIA_BYTES, SLOTS, STATE_BYTES};
 
 /// What the frames hold after a loss of power: neither zeros nor text.
 const LOST: u8 = 0xa5;
@@ -94,12 +94,8 @@ impl Device {
 
     /// The logical size of a file: its bytes as read and write see them.
     pub fn len(&self, file: usize) -> Result<usize, Error> {
-        if !self.is_mounted() {
-            return Err(Error::Down);
-        }
-        if file >= FILES {
-            return Err(Error::NoFile);
-        }
+        // a look at 0 has the refusals of a read
+        self.look_count(file, 0)?;
         let at = LOGICAL + 4 * file;
         let bytes = [0, 1, 2, 3].map(|i| self.state[at + i]);
         Ok(u32::from_le_bytes(bytes) as usize)
@@ -146,7 +142,7 @@ impl Device {
 
     /// All bytes of a file.
     pub fn read_all(&self, file: usize) -> Result<Vec<u8>, Error> {
-        let mut bytes = vec![0; self.len(file)?];
+        let mut bytes = vec![0; FILE_BYTES];
         let count = self.read(file, 0, &mut bytes)?;
         bytes.truncate(count);
         Ok(bytes)
