@@ -1,5 +1,6 @@
 /*
- * The box store from C: a serial that survives a loss of power, a sync that the budget cuts, a look, and refusals.
+ * The box store from C: a serial that survives a loss of power, a sync that the budget cuts, a look, refusals, and the
+ * media writes by themselves.
  *
  *   rt staticlib boxstore
  *   gcc -std=c99 -Wall -Wextra -pedantic -Werror -Iinterop interop/c/power_cut.c target/staticlib/libboxstore.a -o power_cut
@@ -151,6 +152,10 @@ static void sync_that_is_cut(void)
     require("file 2 is empty, as before", all(media + 2 * BOXSTORE_FILE_BYTES, BOXSTORE_FILE_BYTES, 0));
 }
 
+/* Of a look's word: 0 for the media and 1 for the frames, and where in them. */
+static unsigned source(uint64_t word) { return (unsigned)(word >> 16) & 65535u; }
+static size_t offset(uint64_t word) { return (size_t)(word >> 32); }
+
 static void look_at_file_1(void)
 {
     uint64_t at;
@@ -158,12 +163,12 @@ static void look_at_file_1(void)
     expect("look at 10 of file 1: count", look_count(1, 10), BOXSTORE_DONE, 246);
     at = look(1, 10);
     require("the look is the media's bytes 10 to 255", boxstore_looked_len(at) == 246
-            && boxstore_looked_at(at, media, frames) == media + BOXSTORE_FILE_BYTES + 10);
+            && source(at) == 0 && offset(at) == BOXSTORE_FILE_BYTES + 10
+            && all(boxstore_looked_at(at, media, frames), 246, 'B'));
     expect("write 1 byte to file 1", write_file(1, 10, (const uint8_t *)"C", 1), BOXSTORE_DONE, 1);
     at = look(1, 10);
     require("the look is in the frames, and sees the byte", boxstore_looked_len(at) == 246
-            && boxstore_looked_at(at, media, frames) >= frames
-            && boxstore_looked_at(at, media, frames) < frames + sizeof frames
+            && source(at) == 1 && offset(at) + 246 <= sizeof frames
             && *boxstore_looked_at(at, media, frames) == 'C');
     expect("truncate file 1 to 2,000", truncate_file(1, 2000), BOXSTORE_DONE, 0);
     expect("look at 1,000 of file 1: count", look_count(1, 1000), BOXSTORE_DONE, 24);
@@ -198,12 +203,40 @@ static void refusals(void)
     expect("write 1 byte to file 5", write_file(5, 0, &byte, 1), BOXSTORE_DONE, 1);
 }
 
+static void media_writes(void)
+{
+    uint32_t record[3] = {300, 200, 250}; /* logical size, floor, stored size */
+    uint8_t bytes[256];
+
+    expect("truncate sizes to 100", boxstore_truncate_sizes(record, 3, 100, 4096), BOXSTORE_DONE, 0);
+    require("logical size and floor are 100, the stored size stays", record[0] == 100 && record[1] == 100 && record[2] == 250);
+    expect("truncate sizes to 4,000", boxstore_truncate_sizes(record, 3, 4000, 4096), BOXSTORE_DONE, 0);
+    require("the logical size is 4,000, the floor stays", record[0] == 4000 && record[1] == 100 && record[2] == 250);
+
+    memset(media, 0, sizeof media);
+    memset(sizes, 0, sizeof sizes);
+    memset(bytes, 'D', sizeof bytes);
+    expect("write page 1 of file 6", boxstore_write_page(media + 6 * BOXSTORE_FILE_BYTES + 256, 256, bytes, sizeof bytes),
+           BOXSTORE_DONE, 0);
+    require("its bytes are on the media, and no others", all(media, 6 * BOXSTORE_FILE_BYTES + 256, 0)
+            && all(media + 6 * BOXSTORE_FILE_BYTES + 256, 256, 'D')
+            && all(media + 6 * BOXSTORE_FILE_BYTES + 512, 2 * BOXSTORE_FILE_BYTES - 512, 0));
+    expect("write size 500 of file 6", boxstore_write_size(media, sizeof media, sizes, BOXSTORE_FILES, 6, 500),
+           BOXSTORE_DONE, 0);
+    require("the stored size is 500", sizes[6] == 500 && sizes[5] == 0 && sizes[7] == 0);
+    expect("trim file 6 to 300", boxstore_trim(media, sizeof media, sizes, BOXSTORE_FILES, 6, 300), BOXSTORE_DONE, 0);
+    require("the stored size is 300, and zeros follow", sizes[6] == 300
+            && all(media + 6 * BOXSTORE_FILE_BYTES + 256, 44, 'D')
+            && all(media + 6 * BOXSTORE_FILE_BYTES + 300, BOXSTORE_FILE_BYTES - 300, 0));
+}
+
 int main(void)
 {
     serial();
     sync_that_is_cut();
     look_at_file_1();
     refusals();
+    media_writes();
     puts("power_cut: all as expected");
     return 0;
 }
