@@ -2,8 +2,11 @@
 
 use std::hint::black_box;
 
-use boxstore::{FILES, FILE_BYTES, MOUNT_WRITES, PAGE_BYTES, SLOTS, SYNC_WRITES};
-use random_calls::{Memory, Store};
+use boxstore::{
+    FILES, FILE_BYTES, FRAMES_BYTES, MEDIA_BYTES, MOUNT_WRITES, PAGE_BYTES, SLOTS, STATE_BYTES,
+    SYNC_WRITES,
+};
+use random_calls::Store;
 use random_sessions::rng::Rng;
 
 /// One step of a scenario.
@@ -91,6 +94,15 @@ impl Scenario {
     }
 }
 
+/// The memory of a store.
+#[derive(Clone)]
+pub struct Memory {
+    media: Vec<u8>,
+    sizes: Vec<u32>,
+    frames: Vec<u8>,
+    state: Vec<u8>,
+}
+
 /// A device, with the buffers of the caller.
 #[derive(Clone)]
 pub struct Run {
@@ -106,7 +118,12 @@ impl Run {
     fn new() -> Run {
         let mut rng = Rng::new(2);
         Run {
-            memory: Memory::new(),
+            memory: Memory {
+                media: vec![0; MEDIA_BYTES],
+                sizes: vec![0; FILES],
+                frames: vec![0; FRAMES_BYTES],
+                state: vec![0; STATE_BYTES],
+            },
             buffer: vec![0; FILE_BYTES],
             // No byte is 0, so that a page which is lost shows.
             source: (0..FILE_BYTES).map(|_| rng.between(1, 255) as u8).collect(),
