@@ -1,5 +1,6 @@
 /*
- * The box store from C: a serial that survives a loss of power, a sync that the budget cuts, a look, and refusals.
+ * The box store from C: a serial that survives a loss of power, a sync that the budget cuts, a look, refusals, and the
+ * media writes by themselves.
  *
  *   rt staticlib boxstore
  *   gcc -std=c99 -Wall -Wextra -pedantic -Werror -Iinterop interop/c/power_cut.c target/staticlib/libboxstore.a -o power_cut
@@ -151,6 +152,10 @@ static void sync_that_is_cut(void)
     require("file 2 is empty, as before", all(media + 2 * BOXSTORE_FILE_BYTES, BOXSTORE_FILE_BYTES, 0));
 }
 
+/* Of a look's word: 0 for the media and 1 for the frames, and where in them. */
+static unsigned source(uint64_t word) { return (unsigned)(word >> 16) & 65535u; }
+static size_t offset(uint64_t word) { return (size_t)(word >> 32); }
+
 static void look_at_file_1(void)
 {
     uint64_t at;
@@ -158,11 +163,12 @@ static void look_at_file_1(void)
     expect("look at 10 of file 1: count", look_count(1, 10), BOXSTORE_DONE, 246);
     at = look(1, 10);
     require("the look is the media's bytes 10 to 255", boxstore_looked_len(at) == 246
-            && boxstore_looked_at(at, media, frames) == media + BOXSTORE_FILE_BYTES + 10);
+            && source(at) == 0 && offset(at) == BOXSTORE_FILE_BYTES + 10
+            && all(boxstore_looked_at(at, media, frames), 246, 'B'));
     expect("write 1 byte to file 1", write_file(1, 10, (const uint8_t *)"C", 1), BOXSTORE_DONE, 1);
     at = look(1, 10);
     require("the look is in the frames, and sees the byte", boxstore_looked_len(at) == 246
-            && (at >> 16 & 1) == 1 && at >> 32 < sizeof frames
+            && source(at) == 1 && offset(at) + 246 <= sizeof frames
             && *boxstore_looked_at(at, media, frames) == 'C');
     expect("truncate file 1 to 2,000", truncate_file(1, 2000), BOXSTORE_DONE, 0);
     expect("look at 1,000 of file 1: count", look_count(1, 1000), BOXSTORE_DONE, 24);
@@ -197,26 +203,31 @@ static void refusals(void)
     expect("write 1 byte to file 5", write_file(5, 0, &byte, 1), BOXSTORE_DONE, 1);
 }
 
-/* The media writes and the truncate rule by themselves. */
-static void parts(void)
+static void media_writes(void)
 {
-    uint32_t record[3] = {300, 100, 200};
-    static const uint8_t page[BOXSTORE_PAGE_BYTES] = {9};
+    uint32_t record[3] = {300, 200, 250}; /* logical size, floor, stored size */
+    uint8_t bytes[256];
 
-    expect("truncate rule: 300, 100, 200 to 50", boxstore_truncate_sizes(record, 3, 50, BOXSTORE_FILE_BYTES), BOXSTORE_DONE, 0);
-    require("logical size and floor are 50", record[0] == 50 && record[1] == 50 && record[2] == 200);
-    expect("BOOKS: a floor above the logical size", boxstore_truncate_sizes(record, 3, 0, 49), BOXSTORE_BOOKS, 0);
-    expect("PAGE: the last page of file 6",
-           boxstore_write_page(media + 7 * BOXSTORE_FILE_BYTES - BOXSTORE_PAGE_BYTES, BOXSTORE_PAGE_BYTES, page, sizeof page),
+    expect("truncate sizes to 100", boxstore_truncate_sizes(record, 3, 100, 4096), BOXSTORE_DONE, 0);
+    require("logical size and floor are 100, the stored size stays", record[0] == 100 && record[1] == 100 && record[2] == 250);
+    expect("truncate sizes to 4,000", boxstore_truncate_sizes(record, 3, 4000, 4096), BOXSTORE_DONE, 0);
+    require("the logical size is 4,000, the floor stays", record[0] == 4000 && record[1] == 100 && record[2] == 250);
+
+    memset(media, 0, sizeof media);
+    memset(sizes, 0, sizeof sizes);
+    memset(bytes, 'D', sizeof bytes);
+    expect("write page 1 of file 6", boxstore_write_page(media + 6 * BOXSTORE_FILE_BYTES + 256, 256, bytes, sizeof bytes),
            BOXSTORE_DONE, 0);
-    require("it is there", media[7 * BOXSTORE_FILE_BYTES - BOXSTORE_PAGE_BYTES] == 9);
-    expect("SIZE: file 6 has 4,096 bytes", boxstore_write_size(media, sizeof media, sizes, BOXSTORE_FILES, 6, 4096), BOXSTORE_DONE, 0);
-    require("its stored size is 4,096", sizes[6] == 4096);
-    expect("RANGE: SIZE of 4,097", boxstore_write_size(media, sizeof media, sizes, BOXSTORE_FILES, 6, 4097), BOXSTORE_RANGE, 0);
-    expect("TRIM: file 6 to 1 byte", boxstore_trim(media, sizeof media, sizes, BOXSTORE_FILES, 6, 1), BOXSTORE_DONE, 0);
-    require("zeros follow, and its stored size is 1", media[7 * BOXSTORE_FILE_BYTES - BOXSTORE_PAGE_BYTES] == 0 && sizes[6] == 1);
-    expect("RANGE: TRIM to 2 bytes", boxstore_trim(media, sizeof media, sizes, BOXSTORE_FILES, 6, 2), BOXSTORE_RANGE, 0);
-    require("the logical size of file 0 is 12", boxstore_logical_size(state, 0) == 12);
+    require("its bytes are on the media, and no others", all(media, 6 * BOXSTORE_FILE_BYTES + 256, 0)
+            && all(media + 6 * BOXSTORE_FILE_BYTES + 256, 256, 'D')
+            && all(media + 6 * BOXSTORE_FILE_BYTES + 512, 2 * BOXSTORE_FILE_BYTES - 512, 0));
+    expect("write size 500 of file 6", boxstore_write_size(media, sizeof media, sizes, BOXSTORE_FILES, 6, 500),
+           BOXSTORE_DONE, 0);
+    require("the stored size is 500", sizes[6] == 500 && sizes[5] == 0 && sizes[7] == 0);
+    expect("trim file 6 to 300", boxstore_trim(media, sizeof media, sizes, BOXSTORE_FILES, 6, 300), BOXSTORE_DONE, 0);
+    require("the stored size is 300, and zeros follow", sizes[6] == 300
+            && all(media + 6 * BOXSTORE_FILE_BYTES + 256, 44, 'D')
+            && all(media + 6 * BOXSTORE_FILE_BYTES + 300, BOXSTORE_FILE_BYTES - 300, 0));
 }
 
 int main(void)
@@ -225,7 +236,7 @@ int main(void)
     sync_that_is_cut();
     look_at_file_1();
     refusals();
-    parts();
+    media_writes();
     puts("power_cut: all as expected");
     return 0;
 }

@@ -1,4 +1,4 @@
-//! Times the proved store beside the tuned one, beside a plain copy, and beside
+//! Times the proved store beside the tuned one, beside the plain work, and beside
 //! what a program on Linux would take otherwise. Prints Markdown.
 
 mod others;
@@ -14,7 +14,7 @@ use boxstore::FILE_BYTES;
 use random_calls::{store_of, Store};
 
 use others::{Named, Other, Room};
-use scenario::{different, Run, Scenario, Step};
+use scenario::{different, Run, Scenario, Step, Work};
 use timing::{measure, median, ratio, Effort, Side};
 
 store_of!(
@@ -35,6 +35,7 @@ usage: bench                   all scenarios, as Markdown tables
        bench --millis N        milliseconds of one side in one round (20)
        bench --only TEXT       scenarios whose name has the text
        bench --profile N       N passes of the proved side alone, for a profiler
+       bench --help            this text
 ";
 
 /// What the arguments ask for.
@@ -77,6 +78,13 @@ fn positive(argument: Option<String>) -> Option<usize> {
 }
 
 fn main() -> ExitCode {
+    if std::env::args()
+        .skip(1)
+        .any(|argument| argument == "--help")
+    {
+        print!("{HELP}");
+        return ExitCode::SUCCESS;
+    }
     let Some(options) = options(std::env::args().skip(1)) else {
         eprint!("{HELP}");
         return ExitCode::from(2);
@@ -145,7 +153,7 @@ fn run(options: &Options, out: &mut impl Write) -> io::Result<()> {
             scaled(row.calls / row.tuned),
             row.to_tuned,
             row.bytes_per_second(),
-            row.to_floor
+            row.to_plain
                 .map_or("-".to_owned(), |ratio| format!("{ratio:.1}")),
         )?;
         out.flush()?;
@@ -153,9 +161,9 @@ fn run(options: &Options, out: &mut impl Write) -> io::Result<()> {
     }
     writeln!(
         out,
-        "\nThe media are memory, on both sides. The plain copy is of the bytes that the calls move: those between \
-         caller and store, pages written to the media, bytes that a trim clears, and bytes that a mount has to look at (to \
-         clear or to look at is less work than to copy). \
+        "\nThe media are memory, on both sides. The plain copy is the plain work on the bytes that the calls move: a copy of \
+         those between caller and store and of the pages written to the media, a fill of those that a trim clears, and a \
+         scan (an OR over the bytes) of those that a mount or a format has to look at. bytes/s counts all these. \
          Medians of {} rounds of {} ms.\n",
         options.effort.rounds,
         options.effort.round.as_millis(),
@@ -219,8 +227,8 @@ struct Row {
     tuned: f64,
     /// Proved over tuned.
     to_tuned: f64,
-    /// Proved over the plain copy, where there is something to copy.
-    to_floor: Option<f64>,
+    /// Proved over the plain work, where there is some.
+    to_plain: Option<f64>,
 }
 
 impl Row {
@@ -233,7 +241,7 @@ impl Row {
 }
 
 fn time_scenario(scenario: &Scenario, effort: Effort) -> Result<Row, String> {
-    let copies = copies(scenario);
+    let work = work(scenario);
     let mut proved = scenario.ready::<Proved>();
     let mut tuned = scenario.ready::<Tuned>();
     let from = vec![1; FILE_BYTES];
@@ -242,7 +250,7 @@ fn time_scenario(scenario: &Scenario, effort: Effort) -> Result<Row, String> {
         &mut [
             side::<Proved>(&mut proved, scenario),
             side::<Tuned>(&mut tuned, scenario),
-            Box::new(|passes| plain_copies(&copies, &from, &mut to, passes)),
+            Box::new(|passes| plain_work(&work, &from, &mut to, passes)),
         ],
         effort,
     );
@@ -252,14 +260,14 @@ fn time_scenario(scenario: &Scenario, effort: Effort) -> Result<Row, String> {
             scenario.name
         ));
     }
-    let bytes = copies.iter().sum::<usize>();
+    let bytes: usize = work.iter().map(|work| work.bytes()).sum();
     Ok(Row {
         calls: scenario.calls() as f64,
         bytes: bytes as f64,
         proved: median(&times[0]),
         tuned: median(&times[1]),
         to_tuned: ratio(&times[0], &times[1]),
-        to_floor: (bytes > 0).then(|| ratio(&times[0], &times[2])),
+        to_plain: (bytes > 0).then(|| ratio(&times[0], &times[2])),
     })
 }
 
@@ -267,21 +275,28 @@ fn side<'a, S: Store>(run: &'a mut Run, scenario: &'a Scenario) -> Side<'a> {
     Box::new(|passes| run.passes::<S>(&scenario.steps, passes))
 }
 
-/// The copies of one pass, after a first pass.
-fn copies(scenario: &Scenario) -> Vec<usize> {
+/// The plain work of one pass, after a first pass.
+fn work(scenario: &Scenario) -> Vec<Work> {
     let mut run = scenario.ready::<Tuned>();
     run.passes::<Tuned>(&scenario.steps, 1);
-    let copies = scenario.steps.iter();
-    copies.flat_map(|&step| run.copies::<Tuned>(step)).collect()
+    let steps = scenario.steps.iter();
+    steps.flat_map(|&step| run.work::<Tuned>(step)).collect()
 }
 
-/// The plain copy, and nothing else.
+/// The plain work, and nothing else.
 #[inline(never)]
-fn plain_copies(copies: &[usize], from: &[u8], to: &mut [u8], passes: usize) {
+fn plain_work(work: &[Work], from: &[u8], to: &mut [u8], passes: usize) {
     for _ in 0..passes {
-        for &length in copies {
-            let to = black_box(&mut to[..length]);
-            to.copy_from_slice(black_box(&from[..length]));
+        for &work in work {
+            let from = black_box(&from[..work.bytes()]);
+            let to = black_box(&mut to[..work.bytes()]);
+            match work {
+                Work::Copy(_) => to.copy_from_slice(from),
+                Work::Scan(_) => {
+                    black_box(from.iter().fold(0, |or, byte| or | byte));
+                }
+                Work::Fill(_) => to.fill(0),
+            }
         }
         black_box(&mut *to);
     }
@@ -327,23 +342,71 @@ fn check_other(name: &str, other: &mut dyn Other) -> Result<(), String> {
     require(buffer == bytes, "the file has other bytes")
 }
 
-/// The scenarios of the others: the start of the name, and one pass.
-type Pass = fn(&mut dyn Other);
-const OTHER_SCENARIOS: [(&str, Pass); 4] = [
-    ("serial", |other| {
-        for _ in 0..16 {
-            other.serial(black_box(SERIAL));
-        }
-    }),
-    ("odometer", odometer),
-    ("fill", |other| other.fill(black_box(&[7; FILE_BYTES]))),
-    ("read 4,096 bytes, none", |other| {
-        let mut buffer = [0; FILE_BYTES];
-        for _ in 0..16 {
-            other.read(black_box(&mut buffer));
-        }
-    }),
+/// A scenario of the others.
+struct OtherScenario {
+    /// The start of the name of the store's scenario.
+    start: &'static str,
+    /// What one operation is.
+    operation: &'static str,
+    /// Operations of one pass.
+    operations: usize,
+    /// Bytes that the caller gives or gets in one pass.
+    payload: usize,
+    /// One pass.
+    pass: fn(&mut dyn Other),
+}
+
+const OTHER_SCENARIOS: [OtherScenario; 4] = [
+    OtherScenario {
+        start: "serial",
+        operation: "write 12 bytes and sync",
+        operations: 16,
+        payload: 16 * 12,
+        pass: |other| {
+            for _ in 0..16 {
+                other.serial(black_box(SERIAL));
+            }
+        },
+    },
+    OtherScenario {
+        start: "odometer",
+        operation: "append 8 times 8 bytes and sync; once in 65, clear and sync",
+        operations: GROUPS + 1,
+        payload: FILE_BYTES,
+        pass: odometer,
+    },
+    OtherScenario {
+        start: "fill",
+        operation: "write 16 pages and sync",
+        operations: 1,
+        payload: FILE_BYTES,
+        pass: |other| other.fill(black_box(&[7; FILE_BYTES])),
+    },
+    OtherScenario {
+        start: "read 4,096 bytes, none",
+        operation: "read 4,096 bytes",
+        operations: 16,
+        payload: 16 * FILE_BYTES,
+        pass: |other| {
+            let mut buffer = [0; FILE_BYTES];
+            for _ in 0..16 {
+                other.read(black_box(&mut buffer));
+            }
+        },
+    },
 ];
+
+impl OtherScenario {
+    /// Operations and payload bytes a second, as cells of the table.
+    fn rates(&self, time: f64) -> String {
+        let per_second = |number: usize| scaled(number as f64 / time);
+        format!(
+            "{} | {}",
+            per_second(self.operations),
+            per_second(self.payload)
+        )
+    }
+}
 
 fn table_of_others(
     proved: &[(&str, Row)],
@@ -356,17 +419,19 @@ fn table_of_others(
     }
     writeln!(
         out,
-        "| scenario | kept by | passes/s | time, over the proved store |"
+        "| one operation | kept by | operations/s | payload bytes/s | time, over the proved store |"
     )?;
-    writeln!(out, "|---|---|--:|--:|")?;
-    for (start, pass) in OTHER_SCENARIOS {
-        let Some((name, row)) = proved.iter().find(|(name, _)| name.starts_with(start)) else {
+    writeln!(out, "|---|---|--:|--:|--:|")?;
+    for scenario in OTHER_SCENARIOS {
+        let mut rows = proved.iter();
+        let Some((_, row)) = rows.find(|(name, _)| name.starts_with(scenario.start)) else {
             continue;
         };
         writeln!(
             out,
-            "| {name} | the proved store, in memory | {} | 1 |",
-            scaled(1.0 / row.proved),
+            "| {} | the proved store, in memory | {} | 1 |",
+            scenario.operation,
+            scenario.rates(row.proved),
         )?;
         for (kept_by, other) in others.iter_mut() {
             let Some(other) = other else {
@@ -374,14 +439,14 @@ fn table_of_others(
             };
             let mut sides: [Side<'_>; 1] = [Box::new(|passes| {
                 for _ in 0..passes {
-                    pass(other.as_mut());
+                    (scenario.pass)(other.as_mut());
                 }
             })];
             let time = median(&measure(&mut sides, effort)[0]);
             writeln!(
                 out,
                 "| | {kept_by} | {} | {} |",
-                scaled(1.0 / time),
+                scenario.rates(time),
                 scaled(time / row.proved),
             )?;
             out.flush()?;
@@ -390,10 +455,10 @@ fn table_of_others(
     writeln!(
         out,
         "\nThe others keep their files on a RAM disk (/dev/shm) and make system calls; the store makes none, and its media \
-         here are memory. So this compares what they cost beside the disk, and not the disk. A pass is the calls of the \
-         scenario once over. LMDB has its usual settings, SQLite journal_mode=WAL and synchronous=FULL. pwrite with \
-         fdatasync is not safe against a torn write, LMDB and SQLite are; the store presumes that the part does each page whole \
-         or not at all."
+         here are memory. So this compares what they cost beside the disk, and not the disk. An operation that writes is \
+         one commit; the payload is what the caller gives or gets. LMDB has its usual settings, SQLite journal_mode=WAL \
+         and synchronous=FULL. pwrite with fdatasync is not safe against a torn write; LMDB and SQLite are; the store \
+         presumes that the part does each page whole or not at all."
     )
 }
 
@@ -412,6 +477,36 @@ mod tests {
         assert!(!same_answer(look, 5 << 32 | 1, 5 << 32));
         assert!(!same_answer(Step::Mount, 5 << 32, 0));
         assert!(same_answer(Step::Mount, 3, 3));
+    }
+
+    /// An operation of the store is a sync with the calls before it, or a read.
+    #[test]
+    fn operations_and_payload_are_those_of_the_store() {
+        let scenarios = scenario::all();
+        for other in OTHER_SCENARIOS {
+            let mut scenarios = scenarios.iter();
+            let scenario = scenarios
+                .find(|scenario| scenario.name.starts_with(other.start))
+                .expect("there is one");
+            let (mut operations, mut payload) = (0, 0);
+            for &step in &scenario.steps {
+                match step {
+                    Step::Sync { .. } => operations += 1,
+                    Step::Write { length, .. } => payload += length,
+                    Step::Read { length, .. } => {
+                        operations += 1;
+                        payload += length;
+                    }
+                    _ => {}
+                }
+            }
+            assert_eq!(
+                (other.operations, other.payload),
+                (operations, payload),
+                "{}",
+                other.start
+            );
+        }
     }
 
     #[test]

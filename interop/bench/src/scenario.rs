@@ -2,8 +2,11 @@
 
 use std::hint::black_box;
 
-use boxstore::{FILES, FILE_BYTES, MOUNT_WRITES, PAGE_BYTES, SLOTS, SYNC_WRITES};
-use random_calls::{Memory, Store};
+use boxstore::{
+    FILES, FILE_BYTES, FRAMES_BYTES, MEDIA_BYTES, MOUNT_WRITES, PAGE_BYTES, SLOTS, STATE_BYTES,
+    SYNC_WRITES,
+};
+use random_calls::Store;
 use random_sessions::rng::Rng;
 
 /// One step of a scenario.
@@ -91,6 +94,15 @@ impl Scenario {
     }
 }
 
+/// The memory of a store.
+#[derive(Clone)]
+pub struct Memory {
+    media: Vec<u8>,
+    sizes: Vec<u32>,
+    frames: Vec<u8>,
+    state: Vec<u8>,
+}
+
 /// A device, with the buffers of the caller.
 #[derive(Clone)]
 pub struct Run {
@@ -106,7 +118,12 @@ impl Run {
     fn new() -> Run {
         let mut rng = Rng::new(2);
         Run {
-            memory: Memory::new(),
+            memory: Memory {
+                media: vec![0; MEDIA_BYTES],
+                sizes: vec![0; FILES],
+                frames: vec![0; FRAMES_BYTES],
+                state: vec![0; STATE_BYTES],
+            },
             buffer: vec![0; FILE_BYTES],
             // No byte is 0, so that a page which is lost shows.
             source: (0..FILE_BYTES).map(|_| rng.between(1, 255) as u8).collect(),
@@ -169,31 +186,33 @@ impl Run {
         black_box(&mut self.buffer);
     }
 
-    /// The lengths of the copies that the step moves bytes by, at the least:
+    /// The plain work of a step, at the least:
     ///
-    /// - read and write: the bytes between the caller and the store;
-    /// - sync: 256 for each page that is written to the media, and the bytes
-    ///   that a trim clears;
-    /// - mount: the bytes past the stored sizes, which it has to look at;
-    /// - format: all bytes of the media;
+    /// - read and write: a copy of the bytes between the caller and the store;
+    /// - sync: a copy of 256 bytes for each page that is written to the media,
+    ///   and a fill of the bytes that a trim clears;
+    /// - mount: a scan of the bytes past the stored sizes, and a fill for each
+    ///   trim;
+    /// - format: a scan of the files whose stored size is 0, and a fill for each
+    ///   trim;
     /// - truncate, look and look count: none.
     ///
     /// The bytes that fill a page when it becomes cached, and the cache state,
     /// are not counted.
-    pub fn copies<S: Store>(&mut self, step: Step) -> Vec<usize> {
+    pub fn work<S: Store>(&mut self, step: Step) -> Vec<Work> {
         let before = self.memory.clone();
         let answer = self.step::<S>(step);
         let (number, count) = (answer >> 16, (answer & 65_535) as usize);
-        let mut copies = Vec::new();
+        let mut work = Vec::new();
         match step {
             Step::Read { .. } | Step::Write { .. } if number == 0 && count > 0 => {
-                copies.push(count);
+                work.push(Work::Copy(count));
             }
             Step::Sync { file, .. } if number == 0 || number == 9 => {
                 let floor = number_at(&before.state, 105 + 4 * file);
                 let mut left = count;
                 if floor < before.sizes[file] as usize && left > 0 {
-                    copies.push(FILE_BYTES - floor);
+                    work.push(Work::Fill(FILE_BYTES - floor));
                     left -= 1;
                 }
                 let pages = (0..SLOTS)
@@ -202,17 +221,46 @@ impl Run {
                             && usize::from(before.state[2 + 3 * slot]) == file
                     })
                     .count();
-                copies.extend(std::iter::repeat_n(PAGE_BYTES, pages.min(left)));
+                let pages = pages.min(left);
+                work.extend(std::iter::repeat_n(Work::Copy(PAGE_BYTES), pages));
             }
             Step::Mount => {
-                for size in before.sizes {
-                    copies.push(FILE_BYTES - size as usize);
+                for (bytes, &size) in before.media.chunks(FILE_BYTES).zip(&before.sizes) {
+                    let past = &bytes[size as usize..];
+                    work.push(Work::Scan(past.len()));
+                    if past.iter().any(|&byte| byte != 0) {
+                        work.push(Work::Fill(past.len()));
+                    }
                 }
             }
-            Step::Format => copies.extend([FILE_BYTES; FILES]),
+            Step::Format => {
+                let empty = before.sizes.iter().filter(|&&size| size == 0).count();
+                work.extend(std::iter::repeat_n(Work::Scan(FILE_BYTES), empty));
+                work.extend(std::iter::repeat_n(Work::Fill(FILE_BYTES), count));
+            }
             _ => {}
         }
-        copies
+        work
+    }
+}
+
+/// Plain work on a number of bytes.
+#[derive(Clone, Copy, Debug, PartialEq, Eq)]
+pub enum Work {
+    /// They are copied.
+    Copy(usize),
+    /// They are looked at: an OR over them.
+    Scan(usize),
+    /// They become 0.
+    Fill(usize),
+}
+
+impl Work {
+    /// The number of bytes.
+    pub fn bytes(self) -> usize {
+        match self {
+            Work::Copy(bytes) | Work::Scan(bytes) | Work::Fill(bytes) => bytes,
+        }
     }
 }
 
@@ -396,7 +444,7 @@ mod tests {
 
     use super::*;
 
-    fn copies(name: &str) -> Vec<usize> {
+    fn work(name: &str) -> Vec<Work> {
         let scenarios = all();
         let scenario = scenarios
             .iter()
@@ -406,26 +454,39 @@ mod tests {
         run.passes::<Reference>(&scenario.steps, 1);
         let steps = scenario.steps.iter();
         steps
-            .flat_map(|&step| run.copies::<Reference>(step))
+            .flat_map(|&step| run.work::<Reference>(step))
             .collect()
     }
 
     #[test]
-    fn bytes_that_are_moved() {
-        assert_eq!(copies("serial"), [12, 256].repeat(16));
-        assert_eq!(copies("fill"), [256; 32]);
-        assert_eq!(copies("read 4,096 bytes, none"), [4_096; 16]);
-        assert_eq!(copies("read 4,096 bytes, all"), [4_096; 16]);
-        assert_eq!(copies("empty read"), []);
+    fn plain_work() {
+        use Work::{Copy, Fill, Scan};
+        assert_eq!(work("serial"), [Copy(12), Copy(256)].repeat(16));
+        assert_eq!(work("fill"), [Copy(256); 32]);
+        assert_eq!(work("read 4,096 bytes, none"), [Copy(4_096); 16]);
+        assert_eq!(work("read 4,096 bytes, all"), [Copy(4_096); 16]);
+        assert_eq!(work("empty read"), []);
 
-        // 512 entries, 64 pages, and the trim of the full file
-        let odometer = copies("odometer");
-        assert_eq!(odometer.len(), 512 + 64 + 1);
-        assert_eq!(odometer.iter().sum::<usize>(), 512 * 8 + 64 * 256 + 4_096);
+        // 64 groups of entries, and the trim of the full file
+        let mut group = vec![Copy(8); 8];
+        group.push(Copy(256));
+        let mut odometer = group.repeat(64);
+        odometer.push(Fill(4_096));
+        assert_eq!(work("odometer"), odometer);
 
-        // all that is past the stored sizes 0, 500, .. 3,500
-        let mount = copies("mount");
-        assert_eq!(mount.iter().sum::<usize>(), 4 * (32_768 - 500 * 28));
+        // what is past the stored sizes 0, 500, .. 3,500; file 3 is trimmed
+        let mut mount: Vec<Work> = (0..8).map(|file| Scan(4_096 - 500 * file)).collect();
+        mount.insert(4, Fill(2_596));
+        assert_eq!(work("mount"), mount.repeat(4));
+
+        // a file with bytes, and seven without
+        let mut run = Run::new();
+        for step in started(&[write(2, 0, 1), sync(2)]) {
+            run.step::<Reference>(step);
+        }
+        let mut format = vec![Scan(4_096); 7];
+        format.push(Fill(4_096));
+        assert_eq!(run.work::<Reference>(Step::Format), format);
     }
 
     #[test]

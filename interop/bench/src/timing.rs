@@ -17,35 +17,46 @@ pub type Side<'a> = Box<dyn FnMut(usize) + 'a>;
 /// The seconds of one pass, of each side in each round. All sides take their
 /// turn in every round, and the first to go changes from round to round.
 pub fn measure(sides: &mut [Side<'_>], effort: Effort) -> Vec<Vec<f64>> {
+    let start = Instant::now();
+    measure_by(sides, effort, &|| start.elapsed())
+}
+
+/// As [`measure`], by a clock that tells the time since some start.
+fn measure_by(
+    sides: &mut [Side<'_>],
+    effort: Effort,
+    clock: &dyn Fn() -> Duration,
+) -> Vec<Vec<f64>> {
     let passes: Vec<usize> = sides
         .iter_mut()
-        .map(|side| passes(side, effort.round))
+        .map(|side| passes(side, effort.round, clock))
         .collect();
     let mut times = vec![Vec::with_capacity(effort.rounds); sides.len()];
     for round in 0..effort.rounds {
         for turn in 0..sides.len() {
             let index = (round + turn) % sides.len();
-            times[index].push(time(&mut sides[index], passes[index]) / passes[index] as f64);
+            let taken = time(&mut sides[index], passes[index], clock);
+            times[index].push(taken / passes[index] as f64);
         }
     }
     times
 }
 
-fn time(side: &mut Side<'_>, passes: usize) -> f64 {
-    let start = Instant::now();
+fn time(side: &mut Side<'_>, passes: usize, clock: &dyn Fn() -> Duration) -> f64 {
+    let start = clock();
     side(passes);
-    start.elapsed().as_secs_f64()
+    (clock() - start).as_secs_f64()
 }
 
 /// More passes than this are not made, however little they take.
 const MOST: usize = 1 << 28;
 
 /// The passes that take about this long.
-fn passes(side: &mut Side<'_>, round: Duration) -> usize {
+fn passes(side: &mut Side<'_>, round: Duration, clock: &dyn Fn() -> Duration) -> usize {
     let wanted = round.as_secs_f64();
     let mut passes = 1;
     loop {
-        let taken = time(side, passes);
+        let taken = time(side, passes, clock);
         if taken >= wanted / 4.0 || passes == MOST {
             return ((passes as f64 * wanted / taken) as usize).clamp(1, MOST);
         }
@@ -73,6 +84,8 @@ pub fn ratio(over: &[f64], under: &[f64]) -> f64 {
 
 #[cfg(test)]
 mod tests {
+    use std::cell::{Cell, RefCell};
+
     use super::*;
 
     #[test]
@@ -82,25 +95,33 @@ mod tests {
         assert_eq!(ratio(&[2.0, 9.0, 8.0], &[1.0, 3.0, 2.0]), 3.0);
     }
 
+    /// The first side takes no time, the second 3 us a pass.
     #[test]
     fn every_side_has_every_round() {
-        let (mut first, mut second) = (0, 0);
+        let now = Cell::new(Duration::ZERO);
+        let calls = RefCell::new(Vec::new());
         let effort = Effort {
             rounds: 4,
-            round: Duration::from_micros(50),
+            round: Duration::from_micros(48),
         };
-        let times = measure(
+        let times = measure_by(
             &mut [
-                Box::new(|passes| first += passes),
+                Box::new(|passes| calls.borrow_mut().push((1, passes))),
                 Box::new(|passes| {
-                    second += passes;
-                    std::thread::sleep(Duration::from_micros(100));
+                    calls.borrow_mut().push((2, passes));
+                    now.set(now.get() + Duration::from_micros(3) * passes as u32);
                 }),
             ],
             effort,
+            &|| now.get(),
         );
-        assert_eq!(times.iter().map(Vec::len).collect::<Vec<_>>(), [4, 4]);
-        assert!(first > 4 && second > 4);
-        assert!(times[1].iter().all(|&time| time > 1e-6));
+        assert_eq!(times[0], [0.0; 4]);
+        assert_eq!(times[1].len(), 4);
+        assert!(times[1].iter().all(|time| (time - 3e-6).abs() < 1e-12));
+        let calls = calls.into_inner();
+        let rounds = &calls[calls.len() - 8..];
+        let (first, second) = ((1, MOST), (2, 16));
+        let turns = [first, second, second, first];
+        assert_eq!(rounds, [turns, turns].concat());
     }
 }

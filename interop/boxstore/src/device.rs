@@ -94,6 +94,7 @@ impl Device {
 
     /// The logical size of a file: its bytes as read and write see them.
     pub fn len(&self, file: usize) -> Result<usize, Error> {
+        // a look at 0 has the refusals of a read
         self.look_count(file, 0)?;
         let at = LOGICAL + 4 * file;
         let bytes = [0, 1, 2, 3].map(|i| self.state[at + i]);

@@ -7,9 +7,12 @@
 //!
 //! A file is 0 to 4,096 bytes. A write goes into a cache of 24 pages of 256
 //! bytes, and a [sync](Device::sync) brings a file to the media. After a loss
-//! of power a [mount](Device::mount) finds each file as its last sync left it,
-//! or as a sync or the writes since then explain it: never a byte that nobody
-//! wrote.
+//! of power a [mount](Device::mount) finds each file as its last completed sync
+//! left it, followed by a first part of the bytes of each later write, none or
+//! all included, and each later truncate carried out or left out.
+//!
+//! The premise: the media does each media write whole or not at all, in order,
+//! and nothing else alters media, sizes, frames or state between calls.
 //!
 //! ```
 //! use boxstore::{Device, MOUNT_WRITES, SYNC_WRITES};

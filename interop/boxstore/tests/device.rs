@@ -96,7 +96,12 @@ fn a_stored_size_that_no_file_has_is_refused() {
     sizes[5] = 4_097;
     let mut device = Device::from_media(vec![3; MEDIA_BYTES], sizes).unwrap();
     assert_eq!(device.mount(MOUNT_WRITES), Err(Error::Media));
-    assert_eq!(device.read(0, 0, &mut [0]), Err(Error::Media));
+    // before DOWN and NO FILE
+    for file in [0, 5, 8] {
+        assert_eq!(device.read(file, 0, &mut [0]), Err(Error::Media));
+        assert_eq!(device.read_all(file), Err(Error::Media));
+        assert_eq!(device.len(file), Err(Error::Media));
+    }
     assert_eq!(device.media(), &[3; MEDIA_BYTES]);
     assert_eq!(device.sizes(), &sizes);
     assert_eq!(device.format(MOUNT_WRITES), Ok(8));

@@ -1,21 +1,28 @@
 //! Makes a history that shows a fault shorter and simpler.
 
-use std::time::{Duration, Instant};
-
 use random_calls::Memory;
 
 use crate::history::{History, Step};
 
-/// The longest that it may take.
-const TIME: Duration = Duration::from_secs(10);
+/// The most histories that it tries.
+const TRIES: usize = 5_000;
 
 /// Simplifies as long as `fails` tells a step; the steps after that are left
 /// out.
 pub fn shrink(history: History, fails: impl Fn(&History) -> Option<usize>) -> History {
+    shrink_within(TRIES, history, fails)
+}
+
+/// As [`shrink`], with at most this many calls of `fails`.
+fn shrink_within(
+    tries: usize,
+    history: History,
+    fails: impl Fn(&History) -> Option<usize>,
+) -> History {
     let mut shrinker = Shrinker {
         best: history,
         fails,
-        deadline: Instant::now() + TIME,
+        tries,
     };
     shrinker.accepts(shrinker.best.clone());
     loop {
@@ -23,7 +30,7 @@ pub fn shrink(history: History, fails: impl Fn(&History) -> Option<usize>) -> Hi
         shrinker.simplify_start();
         shrinker.remove_steps();
         shrinker.simplify_calls();
-        if shrinker.best == before || Instant::now() >= shrinker.deadline {
+        if shrinker.best == before || shrinker.tries == 0 {
             return shrinker.best;
         }
     }
@@ -33,15 +40,17 @@ struct Shrinker<F> {
     /// The simplest history so far that fails.
     best: History,
     fails: F,
-    deadline: Instant,
+    /// The tries that are left.
+    tries: usize,
 }
 
 impl<F: Fn(&History) -> Option<usize>> Shrinker<F> {
     /// Takes a simpler history if it fails too.
     fn accepts(&mut self, mut history: History) -> bool {
-        if Instant::now() >= self.deadline {
+        if self.tries == 0 {
             return false;
         }
+        self.tries -= 1;
         let Some(step) = (self.fails)(&history) else {
             return false;
         };
@@ -108,5 +117,37 @@ impl<F: Fn(&History) -> Option<usize>> Shrinker<F> {
                 index += 1;
             }
         }
+    }
+}
+
+#[cfg(test)]
+mod tests {
+    use std::cell::Cell;
+
+    use random_calls::Call;
+
+    use super::*;
+
+    /// Fails where there are ten steps or more, whatever they are.
+    #[test]
+    fn no_more_tries_than_allowed() {
+        let long = History {
+            start: Memory::new(),
+            format: true,
+            steps: vec![Step::Call(Call::Truncate { file: 7, n: 4_000 }); 40],
+        };
+        let made = Cell::new(0);
+        let fails = |history: &History| {
+            made.set(made.get() + 1);
+            (history.steps.len() >= 10).then(|| history.steps.len() - 1)
+        };
+        for tries in [1, 3, 30] {
+            made.set(0);
+            shrink_within(tries, long.clone(), fails);
+            assert_eq!(made.get(), tries);
+        }
+        let least = shrink(long.clone(), fails);
+        let step = Step::Call(Call::Truncate { file: 0, n: 0 });
+        assert_eq!(least.steps, vec![step; 10]);
     }
 }

@@ -5,6 +5,7 @@ use std::fmt;
 use random_sessions::rng::Rng;
 use reference::store::{FILES, FILE_MAX, PAGE, PAGES};
 
+use crate::guarded::{Element, Guarded};
 use crate::memory::{fill, Memory};
 use crate::store::Store;
 use crate::text::Bytes;
@@ -293,47 +294,86 @@ impl Call {
         }
     }
 
-    /// Carries the call out. Answers its word and, of a look, the word that
-    /// tells where the bytes lie; else 0.
-    pub fn run<S: Store>(&mut self, memory: &mut Memory) -> (u32, u64) {
+    /// Carries the call out, on slices that lie between guards.
+    pub fn run<S: Store>(&mut self, memory: &mut Memory) -> Ran {
         let Memory {
             media,
             sizes,
             frames,
             state,
         } = memory;
-        let answer = match self {
-            Call::Down => S::down(state),
-            Call::Format { budget } => S::format(media, sizes, state, *budget),
-            Call::Mount { budget } => S::mount(media, sizes, state, *budget),
+        let mut look = 0;
+        let (word, intact) = match self {
+            Call::Down => (S::down(state), true),
+            Call::Format { budget } => (S::format(media, sizes, state, *budget), true),
+            Call::Mount { budget } => (S::mount(media, sizes, state, *budget), true),
             Call::Read {
                 file,
                 position,
                 buffer,
-            } => S::read(media, sizes, frames, state, *file, *position, buffer),
+            } => guarded(buffer, |buffer| {
+                S::read(media, sizes, frames, state, *file, *position, buffer)
+            }),
             Call::Write {
                 file,
                 position,
                 bytes,
-            } => S::write(media, sizes, frames, state, *file, *position, bytes),
-            Call::Truncate { file, n } => S::truncate(media, sizes, frames, state, *file, *n),
-            Call::Sync { file, budget } => S::sync(media, sizes, frames, state, *file, *budget),
+            } => guarded(bytes, |bytes| {
+                S::write(media, sizes, frames, state, *file, *position, bytes)
+            }),
+            Call::Truncate { file, n } => {
+                let word = S::truncate(media, sizes, frames, state, *file, *n);
+                (word, true)
+            }
+            Call::Sync { file, budget } => {
+                let word = S::sync(media, sizes, frames, state, *file, *budget);
+                (word, true)
+            }
             Call::Look { file, position } => {
-                let count = S::look_count(media, sizes, frames, state, *file, *position);
-                let look = S::look(media, sizes, frames, state, *file, *position);
-                return (count, look);
+                let word = S::look_count(media, sizes, frames, state, *file, *position);
+                look = S::look(media, sizes, frames, state, *file, *position);
+                (word, true)
             }
             Call::TruncateSizes {
                 record,
                 n,
                 greatest,
-            } => S::truncate_sizes(record, *n, *greatest),
-            Call::WritePage { page, bytes } => S::write_page(page, bytes),
-            Call::WriteSize { file, n } => S::write_size(media, sizes, *file, *n),
-            Call::Trim { file, n } => S::trim(media, sizes, *file, *n),
+            } => guarded(record, |record| S::truncate_sizes(record, *n, *greatest)),
+            Call::WritePage { page, bytes } => {
+                let ((word, bytes_intact), page_intact) = guarded(page, |page| {
+                    guarded(bytes, |bytes| S::write_page(page, bytes))
+                });
+                (word, bytes_intact && page_intact)
+            }
+            Call::WriteSize { file, n } => (S::write_size(media, sizes, *file, *n), true),
+            Call::Trim { file, n } => (S::trim(media, sizes, *file, *n), true),
         };
-        (answer, 0)
+        Ran {
+            word,
+            look,
+            intact: intact && memory.is_intact(),
+        }
     }
+}
+
+/// What a call answered.
+#[derive(Clone, Copy, Debug, PartialEq, Eq)]
+pub struct Ran {
+    /// The word: 65,536 * number + count.
+    pub word: u32,
+    /// Of a look, the word that tells where the bytes lie; else 0.
+    pub look: u64,
+    /// Whether all guards are as they were made.
+    pub intact: bool,
+}
+
+/// Lends a buffer between guards. Answers what the call answers, and whether
+/// the guards are as they were made.
+fn guarded<T: Element, R>(buffer: &mut [T], call: impl FnOnce(&mut Guarded<T>) -> R) -> (R, bool) {
+    let mut lent = Guarded::from(&*buffer);
+    let answer = call(&mut lent);
+    buffer.copy_from_slice(&lent);
+    (answer, lent.is_intact())
 }
 
 fn random_bytes(rng: &mut Rng, length: usize) -> Vec<u8> {
@@ -455,5 +495,24 @@ fn budget(rng: &mut Rng) -> usize {
         2 | 3 => rng.below(20),
         4 => number(rng),
         _ => rng.pick(&[8, 18, 65_535, 65_536, 1 << 32, usize::MAX]),
+    }
+}
+
+#[cfg(test)]
+mod tests {
+    use super::*;
+
+    #[test]
+    fn a_buffer_is_lent_between_guards() {
+        let mut buffer = [1, 2, 3];
+        let ran = guarded(&mut buffer, |lent| {
+            lent[2] = 7;
+            lent.len()
+        });
+        assert_eq!((ran, buffer), ((3, true), [1, 2, 7]));
+        for past in [false, true] {
+            let ran = guarded(&mut buffer, |lent| lent.spoil(past, 0_u8));
+            assert_eq!((ran, buffer), (((), false), [1, 2, 7]));
+        }
     }
 }

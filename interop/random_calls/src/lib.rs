@@ -4,6 +4,7 @@
 
 mod call;
 mod compare;
+mod guarded;
 mod memory;
 mod pair;
 mod reference_store;
@@ -13,6 +14,7 @@ mod text;
 
 pub use call::Call;
 pub use compare::{compare, Difference, Tally};
+pub use guarded::{Element, Guarded};
 pub use memory::{fill, Memory};
 pub use pair::{Answered, Pair};
 pub use reference_store::{decode, encode, Reference};

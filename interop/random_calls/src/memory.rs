@@ -7,30 +7,31 @@ use reference::store::{
     CacheState, Slot, FILES, FILE_MAX, FRAMES_LEN, MEDIA_LEN, PAGE, PAGES, SLOTS,
 };
 
+use crate::guarded::Guarded;
 use crate::reference_store::{decode, encode, STATE_LEN};
 use crate::text::Bytes;
 
-/// What a call of the store works on.
+/// What a call of the store works on, between guards.
 #[derive(Clone, Debug, PartialEq, Eq)]
 pub struct Memory {
     /// The bytes of the media.
-    pub media: Vec<u8>,
+    pub media: Guarded<u8>,
     /// The stored sizes.
-    pub sizes: Vec<u32>,
+    pub sizes: Guarded<u32>,
     /// The bytes of the cached pages.
-    pub frames: Vec<u8>,
+    pub frames: Guarded<u8>,
     /// The cache state.
-    pub state: Vec<u8>,
+    pub state: Guarded<u8>,
 }
 
 impl Memory {
     /// Media all 0, down.
     pub fn new() -> Memory {
         Memory {
-            media: vec![0; MEDIA_LEN],
-            sizes: vec![0; FILES],
-            frames: vec![0; FRAMES_LEN],
-            state: vec![0; STATE_LEN],
+            media: Guarded::new(0, MEDIA_LEN),
+            sizes: Guarded::new(0, FILES),
+            frames: Guarded::new(0, FRAMES_LEN),
+            state: Guarded::new(0, STATE_LEN),
         }
     }
 
@@ -59,6 +60,14 @@ impl Memory {
             && self.sizes.len() == FILES
             && self.frames.len() == FRAMES_LEN
             && self.state.len() == STATE_LEN
+    }
+
+    /// Whether the guards of the four are as they were made.
+    pub fn is_intact(&self) -> bool {
+        self.media.is_intact()
+            && self.sizes.is_intact()
+            && self.frames.is_intact()
+            && self.state.is_intact()
     }
 
     /// Whether the cache state is sound beside the stored sizes.
@@ -204,7 +213,7 @@ impl Memory {
 
     fn random_state(&mut self, rng: &mut Rng) {
         let greatest = rng.pick(&[1, 2, 16, 255]);
-        for byte in &mut self.state {
+        for byte in self.state.iter_mut() {
             *byte = rng.between(0, greatest) as u8;
         }
         if rng.chance(70) {

@@ -2,7 +2,8 @@
 
 use reference::store::{PAGE, SLOTS};
 
-use crate::call::Call;
+use crate::call::{Call, Ran};
+use crate::guarded::Guarded;
 use crate::memory::Memory;
 use crate::store::Store;
 
@@ -14,7 +15,7 @@ pub struct Pair {
     /// Whether the frames of free slots may differ.
     apart: bool,
     /// The frames of `two` before a call.
-    frames: Vec<u8>,
+    frames: Guarded<u8>,
 }
 
 /// What a call answered.
@@ -25,6 +26,9 @@ pub struct Answered {
     /// Of a read, the buffer after it; of a look, the bytes that it names.
     pub bytes: Vec<u8>,
 }
+
+/// Said of a call that alters a guard.
+const BESIDE: &str = "the call wrote before or past a slice that it was lent";
 
 impl Answered {
     /// The number of the answer, 0 for done.
@@ -82,8 +86,9 @@ impl Pair {
     }
 
     /// Makes a call on both stores. Says what is wrong where the answers, the
-    /// buffers of the call or the memory differ, or where the second store
-    /// altered what it may not write or, refusing, anything at all.
+    /// buffers of the call or the memory differ, where the second store altered
+    /// what it may not write or, refusing, anything at all, or where one wrote
+    /// outside of what it was lent.
     ///
     /// Document 01 leaves open which free slot a page takes, and the bytes of
     /// free slots after a write or a truncate. All stores here take the first
@@ -92,7 +97,11 @@ impl Pair {
     pub fn call<A: Store, B: Store>(&mut self, call: &Call) -> Result<Answered, String> {
         self.frames.clone_from(&self.two.frames);
         let mut call_two = call.clone();
-        let (word, look) = call_two.run::<B>(&mut self.two);
+        let two = call_two.run::<B>(&mut self.two);
+        if !two.intact {
+            return Err(BESIDE.to_owned());
+        }
+        let Ran { word, look, .. } = two;
         let number = word >> 16;
         let refused = (2..=8).contains(&number);
         // Media, sizes and state of the first store are as they came.
@@ -109,10 +118,14 @@ impl Pair {
         }
 
         let mut call_one = call.clone();
-        let (word_one, look_one) = call_one.run::<A>(&mut self.one);
-        if !same_answer((word_one, look_one), (word, look)) {
+        let one = call_one.run::<A>(&mut self.one);
+        if !one.intact {
+            return Err(format!("the first store: {BESIDE}"));
+        }
+        if !same_answer(one, two) {
             return Err(format!(
-                "the answers differ: {word_one:x} and {word:x}, looks {look_one:x} and {look:x}"
+                "the answers differ: {:x} and {word:x}, looks {:x} and {look:x}",
+                one.word, one.look
             ));
         }
         if number > 9 || number == 1 {
@@ -200,7 +213,38 @@ impl Pair {
 
 /// A look that is done and finds no byte may name any place; a refused one has
 /// the word 0.
-fn same_answer(one: (u32, u64), two: (u32, u64)) -> bool {
-    let empty = |(answer, look): (u32, u64)| answer >> 16 == 0 && look & 65_535 == 0;
-    one == two || (one.0 == two.0 && empty(one) && empty(two))
+fn same_answer(one: Ran, two: Ran) -> bool {
+    let empty = |ran: Ran| ran.word >> 16 == 0 && ran.look & 65_535 == 0;
+    one == two || (one.word == two.word && empty(one) && empty(two))
+}
+
+#[cfg(test)]
+mod tests {
+    use super::*;
+    use crate::Reference;
+
+    /// As a call that writes one element before or past a slice leaves it.
+    #[test]
+    fn a_spoilt_guard_is_told() {
+        let spoil: [fn(&mut Memory, bool); 4] = [
+            |memory, past| memory.media.spoil(past, 0),
+            |memory, past| memory.sizes.spoil(past, 0),
+            |memory, past| memory.frames.spoil(past, 0),
+            |memory, past| memory.state.spoil(past, 0),
+        ];
+        let call = |pair: &mut Pair| pair.call::<Reference, Reference>(&Call::Down);
+        for spoil in spoil {
+            for past in [false, true] {
+                let mut pair = Pair::new(&Memory::new());
+                call(&mut pair).unwrap();
+                spoil(&mut pair.two, past);
+                assert_eq!(call(&mut pair).unwrap_err(), BESIDE);
+
+                let mut pair = Pair::new(&Memory::new());
+                spoil(&mut pair.one, past);
+                let what = call(&mut pair).unwrap_err();
+                assert_eq!(what, format!("the first store: {BESIDE}"));
+            }
+        }
+    }
 }

@@ -5,7 +5,7 @@ use random_calls::{compare, Call, Memory, Reference, Store};
 /// The reference, with one fault.
 struct Faulty<const FAULT: usize>;
 
-const FAULTS: usize = 18;
+const FAULTS: usize = 21;
 
 impl<const FAULT: usize> Store for Faulty<FAULT> {
     fn down(state: &mut [u8]) -> u32 {
@@ -126,7 +126,12 @@ impl<const FAULT: usize> Store for Faulty<FAULT> {
         file: usize,
         position: usize,
     ) -> u32 {
-        Reference::look_count(media, sizes, frames, state, file, position)
+        let answer = Reference::look_count(media, sizes, frames, state, file, position);
+        // to the end of the page, past the logical size
+        if FAULT == 19 && (1..256).contains(&answer) {
+            return 256 - (position % 256) as u32;
+        }
+        answer
     }
 
     fn look(
@@ -165,11 +170,20 @@ impl<const FAULT: usize> Store for Faulty<FAULT> {
     }
 
     fn write_size(media: &[u8], sizes: &mut [u32], file: usize, n: usize) -> u32 {
+        if FAULT == 20 {
+            return Reference::write_size(media, sizes, file, n as u32 as usize);
+        }
         Reference::write_size(media, sizes, file, n)
     }
 
     fn trim(media: &mut [u8], sizes: &mut [u32], file: usize, n: usize) -> u32 {
-        Reference::trim(media, sizes, file, n)
+        let before = media.to_vec();
+        let answer = Reference::trim(media, sizes, file, n);
+        // the last byte stays
+        if FAULT == 21 && answer == 0 && n < 4_096 {
+            media[4_096 * file + 4_095] = before[4_096 * file + 4_095];
+        }
+        answer
     }
 }
 
@@ -212,6 +226,9 @@ fn every_fault_is_found() {
         compare::<Reference, Faulty<16>>,
         compare::<Reference, Faulty<17>>,
         compare::<Reference, Faulty<18>>,
+        compare::<Reference, Faulty<19>>,
+        compare::<Reference, Faulty<20>>,
+        compare::<Reference, Faulty<21>>,
     ]
     .map(|compare| compare(1, 30_000).is_err());
     assert_eq!(found, [true; FAULTS]);

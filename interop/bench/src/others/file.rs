@@ -8,7 +8,7 @@ use std::path::Path;
 
 use boxstore::{FILE_BYTES, PAGE_BYTES};
 
-use super::{pages, Other};
+use super::{named, pages, Other};
 
 /// Three open files.
 pub struct Files {
@@ -21,11 +21,13 @@ impl Files {
     /// Makes the files.
     pub fn open(folder: &Path) -> io::Result<Files> {
         let open = |name: &str| {
-            OpenOptions::new()
+            let path = folder.join(name);
+            let file = OpenOptions::new()
                 .read(true)
                 .write(true)
                 .create_new(true)
-                .open(folder.join(name))
+                .open(&path);
+            named(&path, file)
         };
         Ok(Files {
             serial: open("serial")?,
@@ -35,7 +37,7 @@ impl Files {
     }
 }
 
-const WORKS: &str = "the RAM disk takes it";
+const WORKS: &str = "/dev/shm takes it";
 
 impl Other for Files {
     fn serial(&mut self, serial: &[u8; 12]) {

@@ -84,7 +84,8 @@ impl Lmdb {
         unsafe {
             check(mdb_env_create(&mut env));
             check(mdb_env_set_maxdbs(env, 3));
-            check(mdb_env_open(env, path.as_ptr(), 0, 0o600));
+            let code = mdb_env_open(env, path.as_ptr(), 0, 0o600);
+            assert_eq!(code, 0, "LMDB gave the error {code} for {path:?}");
             check(mdb_txn_begin(env, ptr::null_mut(), 0, &mut txn));
             let names = [c"serial", c"entries", c"pages"];
             for (database, name) in databases.iter_mut().zip(names) {

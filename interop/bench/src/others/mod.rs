@@ -39,7 +39,8 @@ pub type Named = (&'static str, Option<Box<dyn Other>>);
 pub fn all(folder: &Path) -> io::Result<Vec<Named>> {
     let room = |name: &str| {
         let folder = folder.join(name);
-        fs::create_dir(&folder).map(|()| folder)
+        named(&folder, fs::create_dir(&folder))?;
+        io::Result::Ok(folder)
     };
     Ok(vec![
         (
@@ -74,15 +75,36 @@ pub struct Room {
 impl Room {
     /// Makes a folder for this process.
     pub fn new() -> io::Result<Room> {
-        let folder = Path::new("/dev/shm").join(format!("boxstore-bench-{}", std::process::id()));
-        fs::create_dir(&folder)?;
+        Room::below(Path::new("/dev/shm"))
+    }
+
+    fn below(disk: &Path) -> io::Result<Room> {
+        let folder = disk.join(format!("boxstore-bench-{}", std::process::id()));
+        named(&folder, fs::create_dir(&folder))?;
         Ok(Room { folder })
     }
+}
+
+/// Puts the path into the text of an error.
+fn named<T>(path: &Path, result: io::Result<T>) -> io::Result<T> {
+    result.map_err(|error| io::Error::new(error.kind(), format!("{}: {error}", path.display())))
 }
 
 impl Drop for Room {
     fn drop(&mut self) {
         // What is left of it is on a RAM disk.
         let _ = fs::remove_dir_all(&self.folder);
+    }
+}
+
+#[cfg(test)]
+mod tests {
+    use super::*;
+
+    #[test]
+    fn an_error_names_the_path() {
+        let error = Room::below(Path::new("/dev/null")).map(drop).unwrap_err();
+        let text = error.to_string();
+        assert!(text.starts_with("/dev/null/boxstore-bench-"), "{text}");
     }
 }

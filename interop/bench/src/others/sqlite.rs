@@ -91,7 +91,8 @@ impl Sqlite {
         // SAFETY: each call gets pointers to live variables and to texts that
         // end in NUL.
         unsafe {
-            check(sqlite3_open(path.as_ptr(), &mut connection), 0);
+            let code = sqlite3_open(path.as_ptr(), &mut connection);
+            assert_eq!(code, 0, "SQLite gave the code {code} for {path:?}");
             let none = ptr::null_mut();
             let made = sqlite3_exec(
                 connection,
