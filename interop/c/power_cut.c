@@ -228,6 +228,7 @@ static void media_writes(void)
     require("the stored size is 300, and zeros follow", sizes[6] == 300
             && all(media + 6 * BOXSTORE_FILE_BYTES + 256, 44, 'D')
             && all(media + 6 * BOXSTORE_FILE_BYTES + 300, BOXSTORE_FILE_BYTES - 300, 0));
+    require("the logical size of file 0 is 12", boxstore_logical_size(state, 0) == 12);
 }
 
 int main(void)
