@@ -1,2 +1,2 @@
-pub mod Seen
-pub mod FileSlots
+pub mod Freeing
+pub mod Pass

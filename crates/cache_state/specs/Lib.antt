@@ -1,1 +1,2 @@
+pub mod Freeing
 pub mod Tables

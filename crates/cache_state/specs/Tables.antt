@@ -1,26 +1,51 @@
--- Tables by page that the code fills in one pass over the slots.
-use Prim.Native.Nat.{ℕ, zero, suc, _*_}
-use mathlib.Core.Bool.{Bool, false}
+-- The table of slots that admission fills in one pass over the bytes of the state: page p of file f is at place P × f + p, of P pages in
+-- a file.
+use Prim.Native.Nat.{ℕ, zero, suc, _+_, _*_, _/_, _%_, _<_}
+use mathlib.Core.Path.{_≡_}
+use mathlib.Core.Bool.{Bool, true, cond, _&&_}
 use mathlib.Core.List.{List, [], _∷_}
-use lib.ListN.{replicate}
+use lib.Dec.{ltb, leb}
+use lib.ListN.{length, getD, replicate}
+use Rattle.answer.specs.Coded.{Coded}
+use Rattle.answer.specs.Admission.{ifDone}
 use Rattle.media.specs.Geometry.{files, pagesPerFile}
-use Rattle.scan.specs.Scan.{firstIndex}
+use Rattle.scan.specs.Scan.{every, everyBelow, firstIndex}
 use Rattle.device.specs.declared.Slot.{Slot}
-use Rattle.device.specs.Device.{slotCount, holds}
+use Rattle.device.specs.Device.{slotCount, freeSlot, holds}
+use Rattle.device.specs.Sound.{inRange, holdsAlone}
+use Rattle.state_bytes.specs.Encoding.{slotsAt, slotsIn, isState}
 
--- no page of any file has been seen
-unfoldable pub noneSeen : List Bool
-noneSeen = replicate (files * pagesPerFile) false
-
--- no page of a file is cached
+-- no page is cached
 unfoldable pub noneCached : List ℕ
-noneCached = replicate pagesPerFile slotCount
+noneCached = replicate (files * pagesPerFile) slotCount
 
--- the slots of n pages of file f from page p on, slotCount for a page that is not cached
-abbrev pub slotsFrom : List Slot → ℕ → ℕ → ℕ → List ℕ
-slotsFrom slots f zero p = []
-slotsFrom slots f (suc n) p = firstIndex (holds f p) slots ∷ slotsFrom slots f n (suc p)
+-- the slots of n pages from place i on, slotCount for a page that is not cached
+abbrev pub slotsFrom : ℕ → List Slot → ℕ → ℕ → List ℕ
+slotsFrom P slots zero i = []
+slotsFrom P slots (suc n) i = firstIndex (holds (i / P) (i % P)) slots ∷ slotsFrom P slots n (suc i)
 
--- the slot of each page of file f, of P pages
-unfoldable pub fileSlots : ℕ → List Slot → ℕ → List ℕ
-fileSlots P slots f = slotsFrom slots f P 0
+-- the slot of each page of each file
+unfoldable pub slotTable : ℕ → List Slot → List ℕ
+slotTable P slots = slotsFrom P slots (files * P) 0
+
+-- what admission leaves: the slots of the state, or none on a refusal
+unfoldable pub tableAfter : Coded → List Slot → List ℕ
+tableAfter a slots = ifDone a (slotTable pagesPerFile slots) noneCached
+
+-- ---- the pass
+
+-- bytes whose slots are sound
+unfoldable pub slotsPass : List ℕ → Bool
+slotsPass bytes = isState bytes && (every (inRange pagesPerFile) (slotsIn bytes) && everyBelow slotCount (holdsAlone (slotsIn bytes)))
+
+-- the slot of a page among the first k, or slotCount
+abbrev pub slotBelow : List Slot → ℕ → ℕ → ℕ → ℕ
+slotBelow slots k f p = cond (ltb (firstIndex (holds f p) slots) k) (firstIndex (holds f p) slots) slotCount
+
+-- the first k slots pass, and the table has their pages
+pub record Passed (bytes table : List ℕ) (k : ℕ) : Type 0 where
+  pub flags : (i : ℕ) → i < k → leb (getD bytes (slotsAt + 3 * i) 0) 1 ≡ true
+  pub named : (i : ℕ) → i < k → inRange pagesPerFile (getD (slotsIn bytes) i freeSlot) ≡ true
+  pub alone : (i : ℕ) → i < k → holdsAlone (slotsIn bytes) i ≡ true
+  pub entry : (f p : ℕ) → f < files → p < pagesPerFile → getD table (pagesPerFile * f + p) 0 ≡ slotBelow (slotsIn bytes) k f p
+  pub places : length table ≡ files * pagesPerFile

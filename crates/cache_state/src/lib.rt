@@ -5,88 +5,34 @@ use device::CacheState;
 use device::FileSizes;
 use device::Slot;
 ghost use mathlib.Core.Path.{_≡_};
-ghost use mathlib.Core.Bool.{_&&_};
-ghost use mathlib.Core.List.{map};
-ghost use Prim.Native.Nat.{_<_, _≤_, _^_};
-ghost use lib.ListN.{getD};
+ghost use mathlib.Core.Bool.{true, false};
+ghost use Prim.Native.Nat.{ℕ, _+_, _*_, _<_, _≤_};
+ghost use lib.ListN.{length, getD};
 ghost use lib.Dec.{eqb, leb};
 ghost use Rattle.answer.specs.Coded.{coded, done};
 ghost use Rattle.answer.specs.Admission.{firstRefusal};
 ghost use Rattle.media.specs.Geometry.{files, fileBytes, pagesPerFile};
 ghost use Rattle.media.specs.Write.{mediaOf};
 ghost use Rattle.scan.specs.Scan.{firstIndex, every, everyBelow};
-ghost use Rattle.device.specs.Device.{deviceOf, slotCount, freeSlot, holds, isFree, freeWhere, withSlots, downState, mountedState};
+ghost use Rattle.device.specs.Device.{deviceOf, slotCount, freeSlot, isFree, downState, mountedState};
 ghost use Rattle.device.specs.Sizes.{inOrder};
-ghost use Rattle.device.specs.Sound.{inRange, holdsAlone, sizesIn, isDown, isSound};
-ghost use Rattle.device.specs.Truncating.{pagesFrom};
-ghost use Rattle.cache_state.specs.Tables.{noneSeen, noneCached, fileSlots};
+ghost use Rattle.device.specs.Sound.{sizesIn, isDown, isSound};
+ghost use Rattle.state_bytes.specs.Encoding.{stateBytes, slotsAt, slotsIn, decode};
+ghost use Rattle.state_bytes.specs.InPlace.{IsEncoded};
+ghost use Rattle.cache_state.specs.Freeing.{isFrom, freedSlots};
+ghost use Rattle.cache_state.specs.Tables.{noneCached, slotTable, tableAfter, slotsPass, Passed};
 ghost use Rattle.device.specs.Admission.{mediaShape, mountedTests, stateTests, mountTests, deviceTests, fileTests};
 
-// Whether a slot holds page `page` of file `file`.
-fn holds(s: Slot, file: usize, page: usize) -> bool
-    ensures { λ r. ⌜ r ≡ holds file page s ⌝ }
-{
-    let f = s.file as usize;
-    let p = s.page as usize;
-    if s.used {
-        if f == file {
-            return p == page;
-        }
-    }
-    false
-}
-
-// The slot that holds a page, or SLOTS where none does.
-pub fn slot_of(cache: CacheState, file: usize, page: usize) -> usize
-    ensures { λ r. ⌜ r ≡ firstIndex (holds file page) (cache .slots) ⌝ }
-{
-    let slots = cache.slots;
-    let mut i = 0;
-    while i < device::SLOTS {
-        if holds(slots[i], file, page) {
-            return i;
-        }
-        i += 1;
-    }
-    device::SLOTS
-}
-
-// Of one file: no page is cached.
-fn none_cached() -> [u8; media::PAGES_PER_FILE]
-    ensures { λ r. ⌜ r ≡ noneCached ⌝ }
-{
-    [device::SLOTS as u8; media::PAGES_PER_FILE]
-}
-
-// The slot of each page of a file, SLOTS for a page that is not cached. From the last slot to the first, so that the first that
-// holds a page stays.
-pub fn file_slots(cache: CacheState, file: usize) -> [u8; media::PAGES_PER_FILE]
-    ensures { λ r. ⌜ r ≡ fileSlots pagesPerFile (cache .slots) file ⌝ }
-{
-    let slots = cache.slots;
-    let mut table = none_cached();
-    let mut k = device::SLOTS;
-    while 0 < k {
-        k -= 1;
-        let s = slots[k];
-        let p = s.page as usize;
-        if holds(s, file, p) {
-            if p < media::PAGES_PER_FILE {
-                table[p] = k as u8;
-            }
-        }
-    }
-    table
-}
+// A slot for each page of each file.
+pub const TABLE: usize = media::FILES * media::PAGES_PER_FILE;
 
 // The first free slot, or SLOTS where none is.
-pub fn first_free(cache: CacheState) -> usize
-    ensures { λ r. ⌜ r ≡ firstIndex isFree (cache .slots) ⌝ }
+pub fn first_free(state: &[u8]) -> usize
+    ensures { λ r. ⌜ r ≡ firstIndex isFree ((decode (now (state .entry))) .slots) ⌝ }
 {
-    let slots = cache.slots;
     let mut k = 0;
     while k < device::SLOTS {
-        let s = slots[k];
+        let s = state_bytes::slot_at(state, k);
         if !s.used {
             return k;
         }
@@ -105,36 +51,31 @@ fn free_slot() -> Slot
     }
 }
 
-// A slot, freed where it holds a page of the file that begins at or past n.
-fn free_from(s: Slot, file: usize, n: usize) -> Slot
-    ensures { λ r. ⌜ r ≡ freeWhere (pagesFrom file n) s ⌝ }
+// Whether a slot holds a page of the file that begins at or past n.
+fn is_from(s: Slot, file: usize, n: usize) -> bool
+    ensures { λ r. ⌜ r ≡ isFrom file n s ⌝ }
 {
     let f = s.file as usize;
     let p = s.page as usize;
     if s.used {
         if f == file {
-            if n <= media::PAGE_BYTES * p {
-                return free_slot();
-            }
+            return n <= media::PAGE_BYTES * p;
         }
     }
-    s
+    false
 }
 
-// The state where the cached pages of a file that begin at or past n are freed.
-pub fn free_pages_from(cache: CacheState, file: usize, n: usize) -> CacheState
-    ensures { λ r. ⌜ r ≡ withSlots cache (map (freeWhere (pagesFrom file n)) (cache .slots)) ⌝ }
+// The cached pages of a file that begin at or past n are freed.
+pub fn free_pages_from(state: &mut [u8], file: usize, n: usize)
+    ensures { λ r. ⌜ now (state .exit) ≡ freedSlots file n slotCount (now (state .entry)) ⌝ }
 {
-    let slots = cache.slots;
-    let mut kept = slots;
-    let mut i = 0;
-    while i < device::SLOTS {
-        kept[i] = free_from(slots[i], file, n);
-        i += 1;
+    let mut k = 0;
+    while k < device::SLOTS {
+        if is_from(state_bytes::slot_at(state, k), file, n) {
+            state_bytes::set_slot(state, k, free_slot());
+        }
+        k += 1;
     }
-    let mut next = cache;
-    next.slots = kept;
-    next
 }
 
 // The state while down.
@@ -161,57 +102,6 @@ pub fn mounted_state(sizes: [u32; media::FILES]) -> CacheState
     }
 }
 
-// Whether a slot names a page that there is, or 0 and 0 where it is free.
-fn in_range(s: Slot, pages: usize) -> bool
-    ensures { λ r. ⌜ r ≡ inRange pages s ⌝ }
-{
-    let f = s.file as usize;
-    let p = s.page as usize;
-    if s.used {
-        if f < media::FILES {
-            return p < pages;
-        }
-        return false;
-    }
-    if f == 0 {
-        return p == 0;
-    }
-    false
-}
-
-// No page has been seen.
-fn none_seen() -> [bool; media::FILES * media::PAGES_PER_FILE]
-    ensures { λ r. ⌜ r ≡ noneSeen ⌝ }
-{
-    [false; media::FILES * media::PAGES_PER_FILE]
-}
-
-// Whether used slots name pages that there are, and no page twice, and free slots carry 0 and 0.
-fn slots_sound(cache: CacheState, pages: usize) -> bool
-    requires { ⌜ pages ≤ pagesPerFile ⌝ }
-    ensures { λ r. ⌜ r ≡ every (inRange pages) (cache .slots) && everyBelow slotCount (holdsAlone (cache .slots)) ⌝ }
-{
-    let slots = cache.slots;
-    let mut seen = none_seen();
-    let mut i = 0;
-    while i < device::SLOTS {
-        let s = slots[i];
-        if in_range(s, pages) {
-            if s.used {
-                let at = media::FILES * (s.page as usize) + s.file as usize;
-                if seen[at] {
-                    return false;
-                }
-                seen[at] = true;
-            }
-            i += 1;
-        } else {
-            return false;
-        }
-    }
-    true
-}
-
 // Whether floor ≤ logical ≤ the greatest file size, and floor ≤ stored.
 pub fn in_order(s: FileSizes, greatest: usize) -> bool
     ensures { λ r. ⌜ r ≡ inOrder greatest s ⌝ }
@@ -233,35 +123,6 @@ fn stored_size(sizes: &[u32], file: usize) -> u32
         return sizes[file];
     }
     0
-}
-
-fn sizes_of(sizes: &[u32], cache: CacheState, file: usize) -> FileSizes
-    requires { ⌜ file < files ⌝ }
-    ensures { λ r. ⌜ r ≡ sizesIn (now (sizes .entry)) cache file ⌝ }
-{
-    let logical = cache.logical;
-    let floor = cache.floor;
-    FileSizes {
-        logical: logical[file],
-        floor: floor[file],
-        stored: stored_size(sizes, file),
-    }
-}
-
-fn files_in_order(sizes: &[u32], cache: CacheState, pages: usize) -> bool
-    requires { ⌜ fileBytes pages < 2 ^ 32 ⌝ }
-    ensures { λ r. ⌜ r ≡ everyBelow files (λ f. inOrder (fileBytes pages) (sizesIn (now (sizes .entry)) cache f)) ⌝ }
-{
-    let greatest = media::PAGE_BYTES * pages;
-    let mut f = 0;
-    while f < media::FILES {
-        if in_order(sizes_of(sizes, cache, f), greatest) {
-            f += 1;
-        } else {
-            return false;
-        }
-    }
-    true
 }
 
 fn slots_free(cache: CacheState) -> bool
@@ -300,26 +161,6 @@ fn is_down(cache: CacheState) -> bool
     if slots_free(cache) {
         if all_zero(logical) {
             return all_zero(floor);
-        }
-    }
-    false
-}
-
-// Whether the cache state is sound beside the stored sizes.
-fn is_sound(sizes: &[u32], cache: CacheState, pages: usize) -> bool
-    requires { ⌜ pages ≤ pagesPerFile ⌝ }
-    ensures { λ r. ⌜ r ≡ isSound pages (now (sizes .entry)) cache ⌝ }
-{
-    let mounted = cache.mounted;
-    if 1 < mounted {
-        return false;
-    }
-    if slots_sound(cache, pages) {
-        if files_in_order(sizes, cache, pages) {
-            if mounted == 0 {
-                return is_down(cache);
-            }
-            return true;
         }
     }
     false
@@ -380,21 +221,174 @@ pub fn admit_device(media: &[u8], sizes: &[u32], frames: &[u8]) -> Answer
     admit_mount(media, sizes)
 }
 
-// BOOKS, DOWN, NO FILE and RANGE: their other tests.
-pub fn admit_state(sizes: &[u32], cache: CacheState, file: usize, range: bool) -> Answer
-    ensures { λ r. ⌜ coded r ≡ firstRefusal (stateTests pagesPerFile (now (sizes .entry)) cache file range) (done 0) ⌝ }
+// No page is cached.
+fn none_cached() -> [u8; TABLE]
+    ensures { λ r. ⌜ r ≡ noneCached ⌝ }
 {
-    if is_sound(sizes, cache, media::PAGES_PER_FILE) {
-        return admit_mounted(cache, file, range);
+    [device::SLOTS as u8; TABLE]
+}
+
+// A byte as a word.
+fn wide(b: u8) -> u64
+    ensures { λ r. ⌜ (r ≡ b) × (r < 256) ⌝ }
+{
+    b as u64
+}
+
+// Eight bytes as one word, which is 0 only where all of them are.
+fn word(state: &[u8], at: usize) -> u64
+    requires { ⌜ at + 8 ≤ length (now state) ⌝ }
+    ensures { λ r. ⌜ (r ≡ 0 → (i : ℕ) → i < 8 → getD (now (state .entry)) (at + i) 0 ≡ 0) ⌝ }
+{
+    let low = wide(state[at])
+        + 256 * wide(state[at + 1])
+        + 65536 * wide(state[at + 2])
+        + 16777216 * wide(state[at + 3]);
+    let high = wide(state[at + 4])
+        + 256 * wide(state[at + 5])
+        + 65536 * wide(state[at + 6])
+        + 16777216 * wide(state[at + 7]);
+    low + 4294967296 * high
+}
+
+// Whether the bytes of eight slots from slot k on are 0.
+fn eight_free(state: &[u8], k: usize) -> bool
+    requires { ⌜ (length (now state) ≡ stateBytes) × (k + 8 ≤ slotCount) ⌝ }
+    ensures { λ r. ⌜ (r ≡ true → (i : ℕ) → i < 24 → getD (now (state .entry)) (slotsAt + 3 * k + i) 0 ≡ 0) ⌝ }
+{
+    let at = 1 + 3 * k;
+    if word(state, at) == 0 {
+        if word(state, at + 8) == 0 {
+            return word(state, at + 16) == 0;
+        }
     }
-    Answer::Refused(Refusal::Books)
+    false
+}
+
+// Slot k names a page that there is, which no slot before it holds, and the page gets its place in the table; or it is free and
+// carries 0 and 0.
+fn find_slot(state: &[u8], k: usize, slots: &mut [u8; TABLE]) -> bool
+    requires { ⌜ (length (now state) ≡ stateBytes) × (k < slotCount) × Passed (now state) (now slots) k ⌝ }
+    ensures { λ r. ⌜ (r ≡ true → Passed (now (state .entry)) (now (slots .exit)) (k + 1)) × (r ≡ false → slotsPass (now (state .entry)) ≡ false) ⌝ }
+{
+    let at = 1 + 3 * k;
+    let used = state[at];
+    let file = state[at + 1] as usize;
+    let page = state[at + 2] as usize;
+    if used == 1 {
+        if file < media::FILES {
+            if page < media::PAGES_PER_FILE {
+                let place = media::PAGES_PER_FILE * file + page;
+                let seen = slots[place] as usize;
+                if seen == device::SLOTS {
+                    slots[place] = k as u8;
+                    return true;
+                }
+                return false;
+            }
+            return false;
+        }
+        return false;
+    }
+    if used == 0 {
+        if file == 0 {
+            if page == 0 {
+                return true;
+            }
+            return false;
+        }
+        return false;
+    }
+    false
+}
+
+fn find_eight(state: &[u8], k: usize, slots: &mut [u8; TABLE]) -> bool
+    requires { ⌜ (length (now state) ≡ stateBytes) × (k + 8 ≤ slotCount) × Passed (now state) (now slots) k ⌝ }
+    ensures { λ r. ⌜ (r ≡ true → Passed (now (state .entry)) (now (slots .exit)) (k + 8)) × (r ≡ false → slotsPass (now (state .entry)) ≡ false) ⌝ }
+{
+    let end = k + 8;
+    let mut i = k;
+    while i < end {
+        if find_slot(state, i, slots) {
+            i += 1;
+        } else {
+            return false;
+        }
+    }
+    true
+}
+
+// Whether the slots are sound. Then the table has the slot of each page. Eight free slots are passed over at a time.
+fn find_slots(state: &[u8], slots: &mut [u8; TABLE]) -> bool
+    requires { ⌜ (length (now state) ≡ stateBytes) × (now slots ≡ noneCached) ⌝ }
+    ensures { λ r. ⌜ (r ≡ slotsPass (now (state .entry))) × (r ≡ true → now (slots .exit) ≡ slotTable pagesPerFile (slotsIn (now (state .entry)))) ⌝ }
+{
+    let mut k = 0;
+    while k < device::SLOTS {
+        if eight_free(state, k) {
+            k += 8;
+        } else {
+            if find_eight(state, k, slots) {
+                k += 8;
+            } else {
+                return false;
+            }
+        }
+    }
+    true
+}
+
+// Whether the sizes of each file are in order. The loop goes to the end, so that it becomes vector code.
+fn files_in_order(sizes: &[u32], state: &[u8]) -> bool
+    ensures { λ r. ⌜ r ≡ everyBelow files (λ f. inOrder (fileBytes pagesPerFile) (sizesIn (now (sizes .entry)) (decode (now (state .entry))) f)) ⌝ }
+{
+    let greatest = media::PAGE_BYTES * media::PAGES_PER_FILE;
+    let mut all = true;
+    let mut f = 0;
+    while f < media::FILES {
+        let s = FileSizes {
+            logical: state_bytes::logical_at(state, f),
+            floor: state_bytes::floor_at(state, f),
+            stored: stored_size(sizes, f),
+        };
+        if !in_order(s, greatest) {
+            all = false;
+        }
+        f += 1;
+    }
+    all
+}
+
+// Whether the bytes say a state that is sound beside the stored sizes. Then the table has its slots.
+fn is_sound(sizes: &[u32], state: &[u8], slots: &mut [u8; TABLE]) -> bool
+    requires { ⌜ now slots ≡ noneCached ⌝ }
+    ensures { λ r. ⌜ (r ≡ isSound pagesPerFile (now (sizes .entry)) (decode (now (state .entry))))
+        × (r ≡ true → (now (slots .exit) ≡ slotTable pagesPerFile ((decode (now (state .entry))) .slots)) × IsEncoded (now (state .entry))
+        × (length (now (state .entry)) ≡ stateBytes) × (getD (now (state .entry)) 0 0 ≡ (decode (now (state .entry))) .mounted)) ⌝ }
+{
+    if state.len() != state_bytes::STATE_BYTES {
+        return false;
+    }
+    if files_in_order(sizes, state) {
+        if find_slots(state, slots) {
+            let mounted = state[0];
+            if mounted == 1 {
+                return true;
+            }
+            if mounted == 0 {
+                return is_down(state_bytes::decode(state));
+            }
+            return false;
+        }
+        return false;
+    }
+    false
 }
 
 // DOWN, NO FILE and RANGE.
-fn admit_mounted(cache: CacheState, file: usize, range: bool) -> Answer
-    ensures { λ r. ⌜ coded r ≡ firstRefusal (mountedTests (cache .mounted) file range) (done 0) ⌝ }
+fn admit_mounted(mounted: u8, file: usize, range: bool) -> Answer
+    ensures { λ r. ⌜ coded r ≡ firstRefusal (mountedTests mounted file range) (done 0) ⌝ }
 {
-    let mounted = cache.mounted;
     if mounted != 1 {
         return Answer::Refused(Refusal::Down);
     }
@@ -407,20 +401,56 @@ fn admit_mounted(cache: CacheState, file: usize, range: bool) -> Answer
     Answer::Refused(Refusal::Range)
 }
 
-// The refusals of the calls on a file, in their order.
+// BOOKS, DOWN, NO FILE and RANGE: their other tests, on the bytes of the state. Where they pass, the table has the slot of each
+// page.
+pub fn admit_state(
+    sizes: &[u32],
+    state: &[u8],
+    file: usize,
+    range: bool,
+    slots: &mut [u8; TABLE],
+) -> Answer
+    ensures { λ r. ⌜ (coded r ≡ firstRefusal (stateTests pagesPerFile (now (sizes .entry)) (decode (now (state .entry))) file range) (done 0))
+        × (now (slots .exit) ≡ tableAfter (coded r) ((decode (now (state .entry))) .slots))
+        × ((coded r) .number ≡ 0 → IsEncoded (now (state .entry))) ⌝ }
+{
+    *slots = none_cached();
+    if is_sound(sizes, state, slots) {
+        let answer = admit_mounted(state[0], file, range);
+        match answer {
+            Answer::Refused(refusal) => {
+                *slots = none_cached();
+                return Answer::Refused(refusal);
+            }
+            Answer::Done(_) => {
+                return Answer::Done(0);
+            }
+        }
+    }
+    *slots = none_cached();
+    Answer::Refused(Refusal::Books)
+}
+
+// The refusals of the calls on a file, in their order. Where none applies, the table has the slot of each page.
 pub fn admit(
     media: &[u8],
     sizes: &[u32],
     frames: &[u8],
-    cache: CacheState,
+    state: &[u8],
     file: usize,
     range: bool,
+    slots: &mut [u8; TABLE],
 ) -> Answer
-    ensures { λ r. ⌜ coded r ≡ firstRefusal (fileTests pagesPerFile (deviceOf (mediaOf (now (media .entry)) (now (sizes .entry))) (now (frames .entry)) cache) file range) (done 0) ⌝ }
+    ensures { λ r. ⌜ (coded r ≡ firstRefusal (fileTests pagesPerFile (deviceOf (mediaOf (now (media .entry)) (now (sizes .entry))) (now (frames .entry)) (decode (now (state .entry)))) file range) (done 0))
+        × (now (slots .exit) ≡ tableAfter (coded r) ((decode (now (state .entry))) .slots))
+        × ((coded r) .number ≡ 0 → IsEncoded (now (state .entry))) ⌝ }
 {
     let admission = admit_device(media, sizes, frames);
     match admission {
-        Answer::Refused(refusal) => Answer::Refused(refusal),
-        Answer::Done(_) => admit_state(sizes, cache, file, range),
+        Answer::Refused(refusal) => {
+            *slots = none_cached();
+            Answer::Refused(refusal)
+        }
+        Answer::Done(_) => admit_state(sizes, state, file, range, slots),
     }
 }

@@ -5,11 +5,11 @@
 --   73 + 4 f       the logical size of file f, low byte first
 --   105 + 4 f      the floor of file f, alike
 use Prim.Native.Nat.{ℕ, zero, suc, _+_, _*_, _/_, _%_}
-use mathlib.Core.Bool.{Bool, cond}
+use mathlib.Core.Bool.{Bool, cond, _&&_}
 use mathlib.Core.List.{List, [], _∷_, _++_}
-use lib.Dec.{eqb, leb}
+use lib.Dec.{eqb, ltb, leb}
 use lib.ListN.{length, getD}
-use Rattle.memory.specs.Bytes.{zeros}
+use Rattle.memory.specs.Bytes.{zeros, overwrite}
 use Rattle.scan.specs.Scan.{everyBelow}
 use Rattle.media.specs.Geometry.{files}
 use Rattle.device.specs.declared.Slot.{Slot}
@@ -93,3 +93,13 @@ decode bytes =
 -- a buffer after the state was written to it; one of another length stays as it is
 unfoldable pub encoded : CacheState → List ℕ → List ℕ
 encoded s before = cond (eqb (length before) stateBytes) (encode s) before
+
+-- ---- changed in place
+
+-- the bytes with another slot k; they stay where there is no such slot, or where they are of another length
+unfoldable pub slotSet : List ℕ → ℕ → Slot → List ℕ
+slotSet bytes k s = cond (eqb (length bytes) stateBytes && ltb k slotCount) (overwrite bytes (slotsAt + 3 * k) (slotBytes s)) bytes
+
+-- the bytes with another size of file f among those that begin at a; they stay alike
+unfoldable pub sizeSet : ℕ → List ℕ → ℕ → ℕ → List ℕ
+sizeSet a bytes f n = cond (eqb (length bytes) stateBytes && ltb f files) (overwrite bytes (a + 4 * f) (numberBytes n)) bytes

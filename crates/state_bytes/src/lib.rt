@@ -1,7 +1,7 @@
-// The cache state as bytes in a borrowed buffer, for callers that cannot hold a `CacheState`.
+// The cache state as bytes in a borrowed buffer: written and read as a whole, and read and changed in place.
 //
 // specs/Encoding.antt has the layout. `encode` and `decode` are inverse on every state; bytes that are no state decode to one that
-// is not sound.
+// is not sound. What is read in place is what the decoded state has.
 use device::CacheState;
 use device::Slot;
 ghost use mathlib.Core.Path.{_≡_};
@@ -10,8 +10,8 @@ ghost use Prim.Native.Nat.{_+_, _*_, _≤_, _<_};
 ghost use lib.ListN.{length, getD};
 ghost use Rattle.memory.specs.Bytes.{overwrite};
 ghost use Rattle.media.specs.Geometry.{files};
-ghost use Rattle.device.specs.Device.{noSlots};
-ghost use Rattle.state_bytes.specs.Encoding.{stateBytes, slotsAt, slotBytes, numberBytes, joined, encoded, slotIn, numberIn, slotsIn, sizesIn, isState, noMark, decode};
+ghost use Rattle.device.specs.Device.{freeSlot, noSlots};
+ghost use Rattle.state_bytes.specs.Encoding.{stateBytes, slotsAt, slotBytes, numberBytes, joined, encoded, slotIn, numberIn, slotsIn, sizesIn, isState, noMark, decode, logicalAt, floorAt, slotSet, sizeSet};
 
 // The length of the buffer.
 pub const STATE_BYTES: usize = 137;
@@ -101,14 +101,20 @@ fn slot_in(state: &[u8], at: usize) -> Slot
     }
 }
 
-fn no_slots() -> [Slot; device::SLOTS]
-    ensures { λ r. ⌜ r ≡ noSlots ⌝ }
+fn free_slot() -> Slot
+    ensures { λ r. ⌜ r ≡ freeSlot ⌝ }
 {
-    [Slot {
+    Slot {
         used: false,
         file: 0,
         page: 0,
-    }; device::SLOTS]
+    }
+}
+
+fn no_slots() -> [Slot; device::SLOTS]
+    ensures { λ r. ⌜ r ≡ noSlots ⌝ }
+{
+    [free_slot(); device::SLOTS]
 }
 
 fn slots_in(state: &[u8]) -> [Slot; device::SLOTS]
@@ -198,5 +204,75 @@ pub fn decode(state: &[u8]) -> CacheState
         slots: no_slots(),
         logical: [0; media::FILES],
         floor: [0; media::FILES],
+    }
+}
+
+// Slot k; a free one where there is no such slot.
+pub fn slot_at(state: &[u8], k: usize) -> Slot
+    ensures { λ r. ⌜ r ≡ getD ((decode (now (state .entry))) .slots) k freeSlot ⌝ }
+{
+    if state.len() == STATE_BYTES {
+        if k < device::SLOTS {
+            return slot_in(state, SLOTS_AT + 3 * k);
+        }
+        return free_slot();
+    }
+    free_slot()
+}
+
+// The logical size of a file, or 0 where there is none.
+pub fn logical_at(state: &[u8], file: usize) -> u32
+    ensures { λ r. ⌜ r ≡ getD ((decode (now (state .entry))) .logical) file 0 ⌝ }
+{
+    if state.len() == STATE_BYTES {
+        if file < media::FILES {
+            return number_in(state, LOGICAL_AT + 4 * file);
+        }
+    }
+    0
+}
+
+// The floor of a file, or 0 where there is none.
+pub fn floor_at(state: &[u8], file: usize) -> u32
+    ensures { λ r. ⌜ r ≡ getD ((decode (now (state .entry))) .floor) file 0 ⌝ }
+{
+    if state.len() == STATE_BYTES {
+        if file < media::FILES {
+            return number_in(state, FLOOR_AT + 4 * file);
+        }
+    }
+    0
+}
+
+// Slot k becomes another.
+pub fn set_slot(state: &mut [u8], k: usize, s: Slot)
+    ensures { λ r. ⌜ now (state .exit) ≡ slotSet (now (state .entry)) k s ⌝ }
+{
+    if state.len() == STATE_BYTES {
+        if k < device::SLOTS {
+            put_slot(state, SLOTS_AT + 3 * k, s);
+        }
+    }
+}
+
+// The logical size of a file becomes n.
+pub fn set_logical(state: &mut [u8], file: usize, n: u32)
+    ensures { λ r. ⌜ now (state .exit) ≡ sizeSet logicalAt (now (state .entry)) file n ⌝ }
+{
+    if state.len() == STATE_BYTES {
+        if file < media::FILES {
+            put_number(state, LOGICAL_AT + 4 * file, n);
+        }
+    }
+}
+
+// The floor of a file becomes n.
+pub fn set_floor(state: &mut [u8], file: usize, n: u32)
+    ensures { λ r. ⌜ now (state .exit) ≡ sizeSet floorAt (now (state .entry)) file n ⌝ }
+{
+    if state.len() == STATE_BYTES {
+        if file < media::FILES {
+            put_number(state, FLOOR_AT + 4 * file, n);
+        }
     }
 }

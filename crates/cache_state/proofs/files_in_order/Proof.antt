@@ -1,51 +1,57 @@
--- `cache_state::files_in_order` meets its contract: all files below f pass.
-use mathlib.Core.Path.{sym, ap, _∙_}
-use Prim.Native.Nat.{_≤_, _-_}
-use native.Mathlib.Omega.{arith}
-use borrow.Author.Needs.{needs}
-use Rattle.media.specs.Geometry.{fileBytes}
-use Rattle.device.specs.Sizes.{inOrder}
-use Rattle.device.specs.Sound.{sizesIn}
-use Rattle.scan.proofs.Loops.{Below, below-none, below-stop, below-next, below-end}
 use Rattle.cache_state.proofs.files_in_order.Statement.{statement}
 use Rattle.cache_state.proofs.files_in_order.Tie as tie
+use Rattle.cache_state.proofs.files_in_order.Reads as reads
+use Rattle.cache_state.proofs.files_in_order.Lts as lts
+use Rattle.cache_state.proofs.in_order.Reads as in-order-reads
+use Rattle.cache_state.proofs.stored_size.Reads as stored-size-reads
+use Rattle.state_bytes.proofs.floor_at.Reads as floor-at-reads
+use Rattle.state_bytes.proofs.logical_at.Reads as logical-at-reads
 
 abbrev Inv-loop : tie.InvT-loop
-Inv-loop sizes cache pages greatest f₀ f = Below (λ f. inOrder (fileBytes pages) (sizesIn sizes cache f)) f × (f ≤ 8)
+Inv-loop sizes state greatest all₀ f₀ all f = ?
 
 abbrev μ-loop : tie.MeasureT-loop
-μ-loop sizes cache pages greatest f₀ f = 8 - f
+μ-loop sizes state greatest all₀ f₀ all f = ?
 
+-- src/lib.rt:345:20
 mul-greatest : tie.Need-mul-greatest Inv-loop μ-loop
-mul-greatest c = search needs
+mul-greatest c = ?
 
+-- src/lib.rt:348:5
 loop-holds : tie.Need-loop-holds Inv-loop μ-loop
-loop-holds c = (below-none, search needs)
+loop-holds c = ?
 
-sizes-of-requires : tie.Need-sizes-of-requires Inv-loop μ-loop
-sizes-of-requires c κs = search needs
+-- src/lib.rt:350:22
+logical-at-requires : tie.Need-logical-at-requires Inv-loop μ-loop
+logical-at-requires c κs = ?
 
+-- src/lib.rt:351:20
+floor-at-requires : tie.Need-floor-at-requires Inv-loop μ-loop
+floor-at-requires c κs = ?
+
+-- src/lib.rt:352:21
+stored-size-requires : tie.Need-stored-size-requires Inv-loop μ-loop
+stored-size-requires c κs = ?
+
+-- src/lib.rt:354:13
 in-order-requires : tie.Need-in-order-requires Inv-loop μ-loop
-in-order-requires c κs = search needs
+in-order-requires c κs = ?
 
+-- src/lib.rt:357:9
 add-f : tie.Need-add-f Inv-loop μ-loop
-add-f c = search needs
+add-f c = ?
 
+-- src/lib.rt:348:5
 loop-less : tie.Need-loop-less Inv-loop μ-loop
-loop-less c = search needs
+loop-less c = ?
 
+-- src/lib.rt:348:5
 loop-again : tie.Need-loop-again Inv-loop μ-loop
-loop-again c =
-    let l = c .before .before .before .before in
-    (below-next (l .loop .inv .0) (ap (inOrder _) (sym (c .before .before .sizes-of .ensures)) ∙ sym (c .before .in-order .ensures) ∙ c .if1 .taken), search needs)
+loop-again c = ?
 
+-- src/lib.rt:342:1
 returns : tie.Need-returns Inv-loop μ-loop
-returns c =
-    let l = c .before .before .before .before in
-    below-stop (l .loop .inv .0) 8 (omega arith) (ap (inOrder _) (sym (c .before .before .sizes-of .ensures)) ∙ sym (c .before .in-order .ensures) ∙ c .if1 .left)
-
-returns-2 : tie.Need-returns-2 Inv-loop μ-loop
-returns-2 c = below-end (c .before .loop .inv .0) 8 (omega arith)
+returns c = ?
 
 pub files-in-order-spec : {M : Type 1} → statement M
 files-in-order-spec =
@@ -55,10 +61,11 @@ files-in-order-spec =
     μ-loop
     mul-greatest
     loop-holds
-    sizes-of-requires
+    logical-at-requires
+    floor-at-requires
+    stored-size-requires
     in-order-requires
     add-f
     loop-less
     loop-again
-    returns
-    returns-2)
+    returns)

@@ -1,48 +1,42 @@
--- `cache_state::first_free` meets its contract: none of the slots before k is free.
-use mathlib.Core.Path.{_≡_}
-use Prim.Native.Nat.{_≤_, _-_}
-use native.Mathlib.Omega.{arith}
-use lib.ListN.{length}
-use borrow.Author.Needs.{needs}
-use Rattle.device.specs.Device.{slotCount, isFree, freeSlot}
-use Rattle.scan.proofs.Loops.{length-mapped, Searched, searched-none, searched-here, searched-next, searched-end}
 use Rattle.cache_state.proofs.first_free.Statement.{statement}
 use Rattle.cache_state.proofs.first_free.Tie as tie
+use Rattle.cache_state.proofs.first_free.Reads as reads
+use Rattle.cache_state.proofs.first_free.Lts as lts
+use Rattle.state_bytes.proofs.slot_at.Reads as slot-at-reads
 
 abbrev Inv-loop : tie.InvT-loop
-Inv-loop slots i₀ i = Searched isFree slots i × (i ≤ slotCount) × (length slots ≡ slotCount)
+Inv-loop state k₀ k = ?
 
 abbrev μ-loop : tie.MeasureT-loop
-μ-loop slots i₀ i = slotCount - i
+μ-loop state k₀ k = ?
 
+-- src/lib.rt:34:5
 loop-holds : tie.Need-loop-holds Inv-loop μ-loop
-loop-holds c = (searched-none, search needs, search (needs, length-mapped))
+loop-holds c = ?
 
-mul-s : tie.Need-mul-s Inv-loop μ-loop
-mul-s c = search needs
+-- src/lib.rt:35:13
+slot-at-requires : tie.Need-slot-at-requires Inv-loop μ-loop
+slot-at-requires c κs = ?
 
-array-copy-out-s : tie.Need-array-copy-out-s Inv-loop μ-loop
-array-copy-out-s c = search needs
-
+-- src/lib.rt:37:13
 returns : tie.Need-returns Inv-loop μ-loop
-returns c =
-    let l = c .before .before .before .before in
-    searched-here freeSlot (l .loop .inv .0) (omega arith) (c .if1 .taken)
+returns c = ?
 
+-- src/lib.rt:39:9
 add-k : tie.Need-add-k Inv-loop μ-loop
-add-k c = search needs
+add-k c = ?
 
+-- src/lib.rt:34:5
 loop-less : tie.Need-loop-less Inv-loop μ-loop
-loop-less c = search needs
+loop-less c = ?
 
+-- src/lib.rt:34:5
 loop-again : tie.Need-loop-again Inv-loop μ-loop
-loop-again c =
-    let l = c .before .before .before .before in
-    (searched-next freeSlot (l .loop .inv .0) (omega arith) (c .if1 .left), search needs, search needs)
+loop-again c = ?
 
+-- src/lib.rt:30:1
 returns-2 : tie.Need-returns-2 Inv-loop μ-loop
-returns-2 c =
-    searched-end freeSlot (c .before .loop .inv .0) slotCount (omega arith) (omega arith)
+returns-2 c = ?
 
 pub first-free-spec : {M : Type 1} → statement M
 first-free-spec =
@@ -51,8 +45,7 @@ first-free-spec =
     Inv-loop
     μ-loop
     loop-holds
-    mul-s
-    array-copy-out-s
+    slot-at-requires
     returns
     add-k
     loop-less

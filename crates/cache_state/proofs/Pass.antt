@@ -1,0 +1,239 @@
+-- One pass over the slots in the bytes of a state: what the table has after the first k of them.
+use mathlib.Core.Path.{_≡_, refl, sym, ap, _∙_}
+use mathlib.Core.Logic.{_≢_}
+use mathlib.Core.Bool.{Bool, true, false, cond, _&&_}
+use mathlib.Core.List.{List}
+use Prim.Native.Nat.{ℕ, zero, suc, _+_, _*_, _/_, _%_, _<_, _≤_}
+use native.Mathlib.Nat.{not-suc-le-zero, le-of-suc-le-suc, add-zero}
+use native.Mathlib.Omega.{arith}
+use lib.Dec.{ltb, leb, eqb}
+use lib.ListN.{length, getD, set, length-set, length-replicate, getD-replicate}
+use lib.Seq.{ext-getD, getD-set-same, getD-set-other}
+use borrow.Author.Tests.{ltb-true, ltb-false, lt-ltb, le-ltb, eq-eqb, ne-eqb, le-leb, lt-leb, eqb-true}
+use Rattle.memory.proofs.Cases.{split-lt, split-eq}
+use Rattle.media.specs.Geometry.{files, pagesPerFile}
+use Rattle.scan.specs.Scan.{every, everyBelow, firstIndex}
+use Rattle.scan.proofs.Scan.{and-left, and-right, is-false, true-not-false, first-le, first-passes, first-before, everyBelow-at, everyBelow-all, every-at, every-all}
+use Rattle.device.specs.declared.Slot.{Slot}
+use Rattle.device.specs.Device.{slotCount, freeSlot, holds}
+use Rattle.device.specs.Sound.{inRange, holdsAlone}
+use Rattle.device.proofs.Device.{holds-own, holds-one}
+use Rattle.state_bytes.specs.Encoding.{slotsAt, slotIn, slotsIn, isState}
+use Rattle.state_bytes.proofs.Encoding.{length-each, getD-each}
+use Rattle.cache_state.specs.Tables.{noneCached, slotsFrom, slotTable, slotsPass, slotBelow, Passed}
+
+-- ---- the table of all slots
+
+length-from : (P : ℕ) (slots : List Slot) (n i : ℕ) → length (slotsFrom P slots n i) ≡ n
+length-from P slots zero i = refl
+length-from P slots (suc n) i = ap suc (length-from P slots n (suc i))
+
+from-at : (P : ℕ) (slots : List Slot) (n i j : ℕ) → j < n → getD (slotsFrom P slots n i) j 0 ≡ firstIndex (holds ((i + j) / P) ((i + j) % P)) slots
+from-at P slots zero i j h = absurd (not-suc-le-zero h)
+from-at P slots (suc n) i zero h = let e : i + 0 ≡ i = omega arith in rw e
+from-at P slots (suc n) i (suc j) h =
+    let e : suc i + j ≡ i + suc j = omega arith in
+    from-at P slots n (suc i) j (le-of-suc-le-suc h) ∙ rw e
+
+pub length-table : (P : ℕ) (slots : List Slot) → length (slotTable P slots) ≡ files * P
+unfolding slotTable
+length-table P slots = length-from P slots (files * P) 0
+
+table-at : (P : ℕ) (slots : List Slot) (j : ℕ) → j < files * P → getD (slotTable P slots) j 0 ≡ firstIndex (holds (j / P) (j % P)) slots
+unfolding slotTable
+table-at P slots j h = let e : 0 + j ≡ j = omega arith in from-at P slots (files * P) 0 j h ∙ rw e
+
+-- the place of a page
+pub table-slot : (slots : List Slot) (f p : ℕ) → f < files → p < pagesPerFile
+    → getD (slotTable pagesPerFile slots) (pagesPerFile * f + p) 0 ≡ firstIndex (holds f p) slots
+table-slot slots f p hf hp =
+    let a : (pagesPerFile * f + p) / pagesPerFile ≡ f = omega arith in
+    let b : (pagesPerFile * f + p) % pagesPerFile ≡ p = omega arith in
+    table-at pagesPerFile slots (pagesPerFile * f + p) (omega arith) ∙ rw (a, b)
+
+-- ---- the pass
+
+-- two pages have two places
+same-place : (f p g q : ℕ) → p < pagesPerFile → q < pagesPerFile → pagesPerFile * f + p ≡ pagesPerFile * g + q → (f ≡ g) × (p ≡ q)
+same-place f p g q hp hq e = (omega arith, omega arith)
+
+-- what a slot in range names
+range-is : (s : Slot) → inRange pagesPerFile s ≡ true → s .used ≡ true → (s .file < files) × (s .page < pagesPerFile)
+unfolding inRange
+range-is s e u =
+    let r : ltb (s .file) files && ltb (s .page) pagesPerFile ≡ true = rw u at e in
+    (ltb-true _ _ (and-left (ltb (s .file) files) _ r), ltb-true _ _ (and-right (ltb (s .file) files) _ r))
+
+-- a number other than k is below k + 1 exactly where it is below k
+below-next : (n k : ℕ) → n ≢ k → ltb n (k + 1) ≡ ltb n k
+below-next n k ne =
+    split-lt n k
+    (λ h. lt-ltb n (k + 1) (omega arith) ∙ sym (lt-ltb n k h))
+    (λ h. le-ltb n (k + 1) (omega arith) ∙ sym (le-ltb n k h))
+
+module _ (bytes : List ℕ) where
+  abbrev slots : List Slot
+  slots = slotsIn bytes
+
+  count : length slots ≡ slotCount
+  unfolding slotsIn
+  count = length-each slotCount (λ k. slotIn bytes (slotsAt + 3 * k))
+
+  pub slot-is : (k : ℕ) → k < slotCount → getD slots k freeSlot ≡ slotIn bytes (slotsAt + 3 * k)
+  unfolding slotsIn
+  slot-is k h = getD-each slotCount (λ n. slotIn bytes (slotsAt + 3 * n)) k freeSlot h
+
+  pub passed-none : Passed bytes noneCached 0
+  unfolding noneCached
+  passed-none = record {
+    flags = λ i h. absurd (not-suc-le-zero h);
+    named = λ i h. absurd (not-suc-le-zero h);
+    alone = λ i h. absurd (not-suc-le-zero h);
+    entry = λ f p hf hp. getD-replicate (files * pagesPerFile) (pagesPerFile * f + p) slotCount 0 (omega arith)
+        ∙ sym (rw (le-ltb (firstIndex (holds f p) slots) 0 (omega arith)));
+    places = length-replicate (files * pagesPerFile) slotCount;
+  }
+
+  -- all slots pass
+  module _ (table : List ℕ) (x : Passed bytes table slotCount) where
+    pub passed-all : slotsPass bytes ≡ true
+    unfolding slotsPass isState
+    passed-all =
+        rw (
+          everyBelow-all slotCount (λ i. leb (getD bytes (slotsAt + 3 * i) 0) 1) (x .flags),
+          every-all (inRange pagesPerFile) slots freeSlot (λ i h. x .named i (rw count at h)),
+          everyBelow-all slotCount (holdsAlone slots) (x .alone),
+        )
+
+    pub passed-table : table ≡ slotTable pagesPerFile slots
+    passed-table =
+        ext-getD 0 table (slotTable pagesPerFile slots) (x .places ∙ sym (length-table pagesPerFile slots))
+        (λ i h.
+        let e : pagesPerFile * (i / pagesPerFile) + i % pagesPerFile ≡ i = omega arith in
+        let l : firstIndex (holds (i / pagesPerFile) (i % pagesPerFile)) slots ≤ slotCount = rw count at (first-le (holds (i / pagesPerFile) (i % pagesPerFile)) slots) in
+        (rw e at (x .entry (i / pagesPerFile) (i % pagesPerFile) (omega (arith, x .places)) (omega arith)))
+        ∙ capped (firstIndex (holds (i / pagesPerFile) (i % pagesPerFile)) slots) l
+        ∙ sym (table-at pagesPerFile slots i (omega (arith, x .places))))
+      where
+        capped : (n : ℕ) → n ≤ slotCount → cond (ltb n slotCount) n slotCount ≡ n
+        capped n l = split-lt n slotCount (λ h. rw (lt-ltb n slotCount h)) (λ h. rw (le-ltb n slotCount h) (omega arith))
+
+  -- slot k is looked at
+  module _ (table : List ℕ) (k : ℕ) (x : Passed bytes table k) (hk : k < slotCount) where
+    pub flag-fails : 1 < getD bytes (slotsAt + 3 * k) 0 → slotsPass bytes ≡ false
+    unfolding slotsPass isState
+    flag-fails h =
+        is-false (slotsPass bytes)
+        (λ t.
+        true-not-false (leb (getD bytes (slotsAt + 3 * k) 0) 1)
+        (everyBelow-at slotCount (λ i. leb (getD bytes (slotsAt + 3 * i) 0) 1) (and-left (isState bytes) _ t) k hk)
+        (lt-leb (getD bytes (slotsAt + 3 * k) 0) 1 h))
+
+    pub range-fails : inRange pagesPerFile (slotIn bytes (slotsAt + 3 * k)) ≡ false → slotsPass bytes ≡ false
+    unfolding slotsPass
+    range-fails e =
+        is-false (slotsPass bytes)
+        (λ t.
+        true-not-false (inRange pagesPerFile (getD slots k freeSlot))
+        (every-at (inRange pagesPerFile) slots freeSlot (and-left (every (inRange pagesPerFile) slots) _ (and-right (isState bytes) _ t)) k (omega (arith, count)))
+        (rw (slot-is k hk) e))
+
+    module _ (flag : getD bytes (slotsAt + 3 * k) 0 ≤ 1) (s : Slot) (es : slotIn bytes (slotsAt + 3 * k) ≡ s) (r : inRange pagesPerFile s ≡ true) where
+      here : getD slots k freeSlot ≡ s
+      here = slot-is k hk ∙ es
+
+      flags-next : (i : ℕ) → i < k + 1 → leb (getD bytes (slotsAt + 3 * i) 0) 1 ≡ true
+      flags-next i h =
+          split-eq i k
+          (λ e. rw e (le-leb (getD bytes (slotsAt + 3 * k) 0) 1 flag))
+          (λ ne. x .flags i (omega arith))
+
+      named-next : (i : ℕ) → i < k + 1 → inRange pagesPerFile (getD slots i freeSlot) ≡ true
+      named-next i h = split-eq i k (λ e. rw (e, here) r) (λ ne. x .named i (omega arith))
+
+      alone-next : holdsAlone slots k ≡ true → (i : ℕ) → i < k + 1 → holdsAlone slots i ≡ true
+      alone-next a i h = split-eq i k (λ e. rw e a) (λ ne. x .alone i (omega arith))
+
+      -- of a page that slot k does not hold
+      not-here : (f p : ℕ) → holds f p s ≡ false → firstIndex (holds f p) slots ≢ k
+      not-here f p e q =
+          true-not-false (holds f p s) (rw (q, here) at (first-passes (holds f p) slots freeSlot (omega (arith, count)))) e
+
+      pub passed-free : s .used ≡ false → Passed bytes table (k + 1)
+      unfolding holdsAlone
+      passed-free u = record {
+        flags = flags-next;
+        named = named-next;
+        alone = alone-next (rw (here, u));
+        entry = λ f p hf hp. x .entry f p hf hp ∙ rw (below-next (firstIndex (holds f p) slots) k (not-here f p (rw u)));
+        places = x .places;
+      }
+
+      module _ (u : s .used ≡ true) where
+        own : firstIndex (holds (s .file) (s .page)) slots ≤ k
+        own = first-before (holds (s .file) (s .page)) slots freeSlot k (omega (arith, count)) (rw here (holds-own (s .file) (s .page) s u refl refl))
+
+        abbrev place : ℕ
+        place = pagesPerFile * s .file + s .page
+
+        -- a slot before it holds its page
+        pub passed-twice : getD table place 0 ≢ slotCount → slotsPass bytes ≡ false
+        unfolding slotsPass holdsAlone
+        passed-twice ne =
+            let n = range-is s r u in
+            let first : ℕ = firstIndex (holds (s .file) (s .page)) slots in
+            split-lt first k
+            (λ h.
+            is-false (slotsPass bytes)
+            (λ t.
+            true-not-false (holdsAlone slots k)
+            (everyBelow-at slotCount (holdsAlone slots) (and-right (every (inRange pagesPerFile) slots) _ (and-right (isState bytes) _ t)) k hk)
+            (rw (here, u) (ne-eqb first k (λ q. omega arith)))))
+            (λ h. absurd (ne (x .entry (s .file) (s .page) (n .0) (n .1) ∙ rw (le-ltb first k h))))
+
+        pub passed-used : getD table place 0 ≡ slotCount → Passed bytes (set table place k) (k + 1)
+        unfolding holdsAlone
+        passed-used e =
+            let n = range-is s r u in
+            let first : ℕ = firstIndex (holds (s .file) (s .page)) slots in
+            let h : k ≤ first = split-lt first k (λ l. absurd (full first l (sym (rw (lt-ltb first k l) at (x .entry (s .file) (s .page) (n .0) (n .1))) ∙ e))) (λ l. l) in
+            let q : first ≡ k = omega (arith, own) in
+            record {
+              flags = flags-next;
+              named = named-next;
+              alone = alone-next (rw (here, u) (eq-eqb first k q));
+              entry = λ f p hf hp.
+                  split-eq (pagesPerFile * f + p) place
+                  (λ w.
+                  let z = same-place f p (s .file) (s .page) hp (n .1) w in
+                  rw (w, getD-set-same table place k 0 (omega (arith, x .places, n .0, n .1)), z .0, z .1, lt-ltb first (k + 1) (omega arith)) (sym q))
+                  (λ ne.
+                  getD-set-other table place (pagesPerFile * f + p) k 0 ne ∙ x .entry f p hf hp
+                  ∙ rw (below-next (firstIndex (holds f p) slots) k (not-here f p (holds-one (s .file) (s .page) f p s refl refl (λ z. ne (rw (z .0, z .1)))))));
+              places = length-set table place k ∙ x .places;
+            }
+          where
+            full : (n : ℕ) → n < k → n ≡ slotCount → ⊥
+            full n l e = omega arith
+
+  -- eight slots whose bytes are 0
+  blank : (table : List ℕ) (k : ℕ) → Passed bytes table k → k < slotCount → getD bytes (slotsAt + 3 * k) 0 ≡ 0
+      → getD bytes (slotsAt + 3 * k + 1) 0 ≡ 0 → getD bytes (slotsAt + 3 * k + 2) 0 ≡ 0 → Passed bytes table (k + 1)
+  unfolding inRange
+  blank table k x hk a b c =
+      let e : slotIn bytes (slotsAt + 3 * k) ≡ freeSlot = rw (a, b, c) in
+      passed-free table k x hk (omega arith) freeSlot e refl refl
+
+  blanks : (table : List ℕ) (k m : ℕ) → Passed bytes table k → k + m ≤ slotCount → ((i : ℕ) → i < 3 * m → getD bytes (slotsAt + 3 * k + i) 0 ≡ 0) → Passed bytes table (k + m)
+  blanks table k zero x h z = let e : k + 0 ≡ k = omega arith in rw e x
+  blanks table k (suc m) x h z =
+      let e : k + suc m ≡ k + 1 + m = omega arith in
+      rw e
+      (blanks table (k + 1) m
+      (blank table k x (omega arith) (rw add-zero at (z 0 (omega arith))) (z 1 (omega arith)) (z 2 (omega arith)))
+      (omega arith)
+      (λ i l. let q : slotsAt + 3 * (k + 1) + i ≡ slotsAt + 3 * k + (3 + i) = omega arith in rw q (z (3 + i) (omega arith))))
+
+  pub passed-eight : (table : List ℕ) (k : ℕ) → Passed bytes table k → k + 8 ≤ slotCount → ((i : ℕ) → i < 24 → getD bytes (slotsAt + 3 * k + i) 0 ≡ 0)
+      → Passed bytes table (k + 8)
+  passed-eight table k x h z = blanks table k 8 x h z
