@@ -5,6 +5,7 @@ use mathlib.Core.Bool.{Bool, true, false, cond, _&&_}
 use mathlib.Core.List.{List}
 use Prim.Native.Nat.{ℕ, zero, suc, _+_, _*_, _/_, _%_, _<_, _≤_}
 use native.Mathlib.Nat.{not-suc-le-zero, le-of-suc-le-suc, add-zero}
+use native.Mathlib.Numerals.{add-one}
 use native.Mathlib.Omega.{arith}
 use lib.Dec.{ltb, leb, eqb}
 use lib.ListN.{length, getD, set, length-set, length-replicate, getD-replicate}
@@ -20,7 +21,7 @@ use Rattle.device.specs.Sound.{inRange, holdsAlone}
 use Rattle.device.proofs.Device.{holds-own, holds-one}
 use Rattle.state_bytes.specs.Encoding.{slotsAt, slotIn, slotsIn, isState}
 use Rattle.state_bytes.proofs.Encoding.{length-each, getD-each}
-use Rattle.cache_state.specs.Tables.{noneCached, slotsFrom, slotTable, slotsPass, slotBelow, Passed}
+use Rattle.cache_state.specs.Tables.{noneCached, slotsFrom, slotTable, zerosFrom, slotsPass, slotBelow, Passed}
 
 -- ---- the table of all slots
 
@@ -50,6 +51,33 @@ table-slot slots f p hf hp =
     let a : (pagesPerFile * f + p) / pagesPerFile ≡ f = omega arith in
     let b : (pagesPerFile * f + p) % pagesPerFile ≡ p = omega arith in
     table-at pagesPerFile slots (pagesPerFile * f + p) (omega arith) ∙ rw (a, b)
+
+-- ---- bytes that are 0
+
+pub zeros-none : (bytes : List ℕ) (a : ℕ) → true ≡ zerosFrom bytes a 0
+unfolding zerosFrom
+zeros-none bytes a = refl
+
+module _ (bytes : List ℕ) (a n : ℕ) (b : Bool) (e : b ≡ zerosFrom bytes a n) where
+  pub zeros-stop : getD bytes (a + n) 0 ≢ 0 → false ≡ zerosFrom bytes a (n + 1)
+  unfolding zerosFrom
+  zeros-stop ne = rw (add-one, ← e, ne-eqb (getD bytes (a + n) 0) 0 ne) (and-no b)
+    where
+      and-no : (x : Bool) → false ≡ x && false
+      and-no true = refl
+      and-no false = refl
+
+  pub zeros-next : getD bytes (a + n) 0 ≡ 0 → b ≡ zerosFrom bytes a (n + 1)
+  unfolding zerosFrom
+  zeros-next q = rw (add-one, ← e, eq-eqb (getD bytes (a + n) 0) 0 q) (and-yes b)
+    where
+      and-yes : (x : Bool) → x ≡ x && true
+      and-yes true = refl
+      and-yes false = refl
+
+pub zeros-at : (bytes : List ℕ) (a n : ℕ) → zerosFrom bytes a n ≡ true → (i : ℕ) → i < n → getD bytes (a + i) 0 ≡ 0
+unfolding zerosFrom
+zeros-at bytes a n e i h = eqb-true _ _ (everyBelow-at n (λ j. eqb (getD bytes (a + j) 0) 0) e i h)
 
 -- ---- the pass
 
@@ -216,7 +244,7 @@ module _ (bytes : List ℕ) where
             full : (n : ℕ) → n < k → n ≡ slotCount → ⊥
             full n l e = omega arith
 
-  -- eight slots whose bytes are 0
+  -- a slot whose bytes are 0
   blank : (table : List ℕ) (k : ℕ) → Passed bytes table k → k < slotCount → getD bytes (slotsAt + 3 * k) 0 ≡ 0
       → getD bytes (slotsAt + 3 * k + 1) 0 ≡ 0 → getD bytes (slotsAt + 3 * k + 2) 0 ≡ 0 → Passed bytes table (k + 1)
   unfolding inRange
@@ -224,6 +252,67 @@ module _ (bytes : List ℕ) where
       let e : slotIn bytes (slotsAt + 3 * k) ≡ freeSlot = rw (a, b, c) in
       passed-free table k x hk (omega arith) freeSlot e refl refl
 
+  -- slot k by its three bytes
+  module _ (table : List ℕ) (k : ℕ) (x : Passed bytes table k) (hk : k < slotCount) where
+    abbrev at : ℕ
+    at = slotsAt + 3 * k
+
+    abbrev file : ℕ
+    file = getD bytes (at + 1) 0
+
+    abbrev page : ℕ
+    page = getD bytes (at + 2) 0
+
+    abbrev here-slot : Bool → Slot
+    here-slot b = record { used = b; file = file; page = page }
+
+    -- an entry of the table
+    pub entry-fits : (f p : ℕ) → f < files → p < pagesPerFile → getD table (pagesPerFile * f + p) 0 ≤ slotCount
+    entry-fits f p hf hp =
+        rw (x .entry f p hf hp)
+        (split-lt (firstIndex (holds f p) slots) k
+        (λ h. rw (lt-ltb (firstIndex (holds f p) slots) k h) (omega arith))
+        (λ h. rw (le-ltb (firstIndex (holds f p) slots) k h) (omega arith)))
+
+    module _ (u : getD bytes at 0 ≡ 1) where
+      used : slotIn bytes at ≡ here-slot true
+      used = rw u
+
+      module _ (hf : file < files) where
+        module _ (hp : page < pagesPerFile) where
+          ranged : inRange pagesPerFile (here-slot true) ≡ true
+          unfolding inRange
+          ranged = rw (lt-ltb file files hf, lt-ltb page pagesPerFile hp)
+
+          pub find-used : getD table (pagesPerFile * file + page) 0 ≡ slotCount → Passed bytes (set table (pagesPerFile * file + page) k) (k + 1)
+          find-used e = passed-used table k x hk (omega arith) (here-slot true) used ranged refl e
+
+          pub find-twice : getD table (pagesPerFile * file + page) 0 ≢ slotCount → slotsPass bytes ≡ false
+          find-twice ne = passed-twice table k x hk (omega arith) (here-slot true) used ranged refl ne
+
+        pub find-page : pagesPerFile ≤ page → slotsPass bytes ≡ false
+        unfolding inRange
+        find-page hp = range-fails table k x hk (rw (u, lt-ltb file files hf, le-ltb page pagesPerFile hp))
+
+      pub find-file : files ≤ file → slotsPass bytes ≡ false
+      unfolding inRange
+      find-file hf = range-fails table k x hk (rw (u, le-ltb file files hf))
+
+    pub find-free : getD bytes at 0 ≡ 0 → file ≡ 0 → page ≡ 0 → Passed bytes table (k + 1)
+    find-free u ef ep = blank table k x hk u ef ep
+
+    pub find-carried : getD bytes at 0 ≡ 0 → file ≢ 0 → slotsPass bytes ≡ false
+    unfolding inRange
+    find-carried u ne = range-fails table k x hk (rw (u, ne-eqb file 0 ne))
+
+    pub find-carried-page : getD bytes at 0 ≡ 0 → file ≡ 0 → page ≢ 0 → slotsPass bytes ≡ false
+    unfolding inRange
+    find-carried-page u ef ne = range-fails table k x hk (rw (u, eq-eqb file 0 ef, ne-eqb page 0 ne))
+
+    pub find-flag : getD bytes at 0 ≢ 1 → getD bytes at 0 ≢ 0 → slotsPass bytes ≡ false
+    find-flag n m = flag-fails table k x hk (omega arith)
+
+  -- eight slots whose bytes are 0
   blanks : (table : List ℕ) (k m : ℕ) → Passed bytes table k → k + m ≤ slotCount → ((i : ℕ) → i < 3 * m → getD bytes (slotsAt + 3 * k + i) 0 ≡ 0) → Passed bytes table (k + m)
   blanks table k zero x h z = let e : k + 0 ≡ k = omega arith in rw e x
   blanks table k (suc m) x h z =
@@ -234,6 +323,5 @@ module _ (bytes : List ℕ) where
       (omega arith)
       (λ i l. let q : slotsAt + 3 * (k + 1) + i ≡ slotsAt + 3 * k + (3 + i) = omega arith in rw q (z (3 + i) (omega arith))))
 
-  pub passed-eight : (table : List ℕ) (k : ℕ) → Passed bytes table k → k + 8 ≤ slotCount → ((i : ℕ) → i < 24 → getD bytes (slotsAt + 3 * k + i) 0 ≡ 0)
-      → Passed bytes table (k + 8)
-  passed-eight table k x h z = blanks table k 8 x h z
+  pub passed-eight : (table : List ℕ) (k : ℕ) → Passed bytes table k → k + 8 ≤ slotCount → zerosFrom bytes (slotsAt + 3 * k) 24 ≡ true → Passed bytes table (k + 8)
+  passed-eight table k x h z = blanks table k 8 x h (zeros-at bytes (slotsAt + 3 * k) 24 z)

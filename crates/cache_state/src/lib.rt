@@ -20,7 +20,7 @@ ghost use Rattle.device.specs.Sound.{sizesIn, isDown, isSound};
 ghost use Rattle.state_bytes.specs.Encoding.{stateBytes, slotsAt, slotsIn, decode};
 ghost use Rattle.state_bytes.specs.InPlace.{IsEncoded};
 ghost use Rattle.cache_state.specs.Freeing.{isFrom, freedSlots};
-ghost use Rattle.cache_state.specs.Tables.{noneCached, slotTable, tableAfter, slotsPass, Passed};
+ghost use Rattle.cache_state.specs.Tables.{noneCached, slotTable, tableAfter, zerosFrom, slotsPass, Passed};
 ghost use Rattle.device.specs.Admission.{mediaShape, mountedTests, stateTests, mountTests, deviceTests, fileTests};
 
 // A slot for each page of each file.
@@ -228,41 +228,21 @@ fn none_cached() -> [u8; TABLE]
     [device::SLOTS as u8; TABLE]
 }
 
-// A byte as a word.
-fn wide(b: u8) -> u64
-    ensures { λ r. ⌜ (r ≡ b) × (r < 256) ⌝ }
-{
-    b as u64
-}
-
-// Eight bytes as one word, which is 0 only where all of them are.
-fn word(state: &[u8], at: usize) -> u64
-    requires { ⌜ at + 8 ≤ length (now state) ⌝ }
-    ensures { λ r. ⌜ (r ≡ 0 → (i : ℕ) → i < 8 → getD (now (state .entry)) (at + i) 0 ≡ 0) ⌝ }
-{
-    let low = wide(state[at])
-        + 256 * wide(state[at + 1])
-        + 65536 * wide(state[at + 2])
-        + 16777216 * wide(state[at + 3]);
-    let high = wide(state[at + 4])
-        + 256 * wide(state[at + 5])
-        + 65536 * wide(state[at + 6])
-        + 16777216 * wide(state[at + 7]);
-    low + 4294967296 * high
-}
-
-// Whether the bytes of eight slots from slot k on are 0.
+// Whether the bytes of eight slots from slot k on are 0. The loop goes to the end, so that it becomes vector code.
 fn eight_free(state: &[u8], k: usize) -> bool
     requires { ⌜ (length (now state) ≡ stateBytes) × (k + 8 ≤ slotCount) ⌝ }
-    ensures { λ r. ⌜ (r ≡ true → (i : ℕ) → i < 24 → getD (now (state .entry)) (slotsAt + 3 * k + i) 0 ≡ 0) ⌝ }
+    ensures { λ r. ⌜ r ≡ zerosFrom (now (state .entry)) (slotsAt + 3 * k) 24 ⌝ }
 {
     let at = 1 + 3 * k;
-    if word(state, at) == 0 {
-        if word(state, at + 8) == 0 {
-            return word(state, at + 16) == 0;
+    let mut free = true;
+    let mut i = 0;
+    while i < 24 {
+        if state[at + i] != 0 {
+            free = false;
         }
+        i += 1;
     }
-    false
+    free
 }
 
 // Slot k names a page that there is, which no slot before it holds, and the page gets its place in the table; or it is free and

@@ -7,7 +7,7 @@ use Rattle.cache_state.proofs.admit_mounted.Statement.{statement}
 use Rattle.cache_state.proofs.admit_mounted.Tie as tie
 
 returns : tie.Need-returns
-returns c = rw (ne-eqb (c .before .args .cache .mounted) 1 (c .if1 .taken))
+returns c = rw (ne-eqb (c .before .args .mounted) 1 (c .if1 .taken))
 
 -- a file that there is
 there : (c : tie.Else2) → c .before .before .args .file < files

@@ -1,46 +1,48 @@
+-- `cache_state::find_eight` meets its contract: the slots before i pass.
+use mathlib.Core.Path.{_≡_, refl, sym, _∙_}
+use mathlib.Core.Bool.{false≢true}
+use Prim.Native.Nat.{_+_, _-_, _≤_}
+use native.Mathlib.Omega.{arith}
+use lib.ListN.{length}
+use borrow.Author.Needs.{needs}
+use Rattle.device.specs.Device.{slotCount}
+use Rattle.state_bytes.specs.Encoding.{stateBytes}
+use Rattle.cache_state.specs.Tables.{Passed}
 use Rattle.cache_state.proofs.find_eight.Statement.{statement}
 use Rattle.cache_state.proofs.find_eight.Tie as tie
-use Rattle.cache_state.proofs.find_eight.Reads as reads
-use Rattle.cache_state.proofs.find_eight.Lts as lts
-use Rattle.cache_state.proofs.find_slot.Reads as find-slot-reads
 
 abbrev Inv-loop : tie.InvT-loop
-Inv-loop state k slots₀ end i₀ slots i = ?
+Inv-loop state k slots₀ end i₀ slots i = Passed state slots i × (i ≤ end) × (end ≡ k + 8) × (length state ≡ stateBytes) × (k + 8 ≤ slotCount)
 
 abbrev μ-loop : tie.MeasureT-loop
-μ-loop state k slots₀ end i₀ slots i = ?
+μ-loop state k slots₀ end i₀ slots i = end - i
 
--- src/lib.rt:309:15
 add-end : tie.Need-add-end Inv-loop μ-loop
-add-end c = ?
+add-end c = search needs
 
--- src/lib.rt:311:5
 loop-holds : tie.Need-loop-holds Inv-loop μ-loop
-loop-holds c = ?
+loop-holds c = (c .before .pre .2, search needs, search needs, search needs, search needs)
 
--- src/lib.rt:312:12
 find-slot-requires : tie.Need-find-slot-requires Inv-loop μ-loop
-find-slot-requires c κs = ?
+find-slot-requires c κs = (search needs, search needs, c .before .loop .inv .0)
 
--- src/lib.rt:313:13
 add-i : tie.Need-add-i Inv-loop μ-loop
-add-i c = ?
+add-i c = search needs
 
--- src/lib.rt:311:5
 loop-less : tie.Need-loop-less Inv-loop μ-loop
-loop-less c = ?
+loop-less c = search needs
 
--- src/lib.rt:311:5
 loop-again : tie.Need-loop-again Inv-loop μ-loop
-loop-again c = ?
+loop-again c = (c .before .find-slot .ensures .0 (c .if1 .taken), search needs, refl, search needs, search needs)
 
--- src/lib.rt:315:13
 returns : tie.Need-returns Inv-loop μ-loop
-returns c = ?
+returns c = (λ q. absurd (false≢true q), λ q. c .before .find-slot .ensures .1 (c .if1 .left))
 
--- src/lib.rt:305:1
 returns-2 : tie.Need-returns-2 Inv-loop μ-loop
-returns-2 c = ?
+returns-2 c =
+    let l = c .before in
+    let e : l .loop .i ≡ l .before .before .args .k + 8 = omega arith in
+    (λ q. rw e at (l .loop .inv .0), λ q. absurd (false≢true (sym q)))
 
 pub find-eight-spec : {M : Type 1} → statement M
 find-eight-spec =

@@ -1,100 +1,111 @@
+-- `cache_state::find_slot` meets its contract: by the three bytes of slot k.
+use mathlib.Core.Path.{_≡_, refl, sym, _∙_}
+use mathlib.Core.Bool.{false≢true}
+use Prim.Native.Nat.{_+_, _*_, _<_}
+use native.Mathlib.Omega.{arith}
+use lib.ListN.{getD}
+use Rattle.cache_state.specs.Tables.{Passed}
+use Rattle.cache_state.proofs.Pass.{entry-fits, find-used, find-twice, find-page, find-file, find-free, find-carried, find-carried-page, find-flag}
 use borrow.Author.Needs.{needs}
 use Rattle.cache_state.proofs.find_slot.Statement.{statement}
 use Rattle.cache_state.proofs.find_slot.Tie as tie
-use Rattle.cache_state.proofs.find_slot.Reads as reads
-use Rattle.cache_state.proofs.find_slot.Lts as lts
 
--- src/lib.rt:274:18
+-- the slots before k
+passed : (c : tie.Start) → Passed (c .args .state .now) (c .args .slots .now) (c .args .k)
+passed c = c .pre .2
+
 mul-at : tie.Need-mul-at
 mul-at c = search needs
 
--- src/lib.rt:274:14
 add-at : tie.Need-add-at
 add-at c = search needs
 
--- src/lib.rt:275:16
 shared-slice-read-used : tie.Need-shared-slice-read-used
 shared-slice-read-used c = search needs
 
--- src/lib.rt:276:22
 add-file : tie.Need-add-file
 add-file c = search needs
 
--- src/lib.rt:276:16
 shared-slice-read-file : tie.Need-shared-slice-read-file
 shared-slice-read-file c = search needs
 
--- src/lib.rt:276:16
 cast-file : tie.Need-cast-file
-cast-file c = ?
+cast-file c = omega (arith, c .shared-slice-known2 .given (1 + 3 * c .before .before .args .k + 1))
 
--- src/lib.rt:277:22
 add-page : tie.Need-add-page
 add-page c = search needs
 
--- src/lib.rt:277:16
 shared-slice-read-page : tie.Need-shared-slice-read-page
 shared-slice-read-page c = search needs
 
--- src/lib.rt:277:16
 cast-page : tie.Need-cast-page
-cast-page c = ?
+cast-page c = omega (arith, c .shared-slice-known3 .given (1 + 3 * c .before .before .before .args .k + 2))
 
--- src/lib.rt:281:29
 mul-place : tie.Need-mul-place
 mul-place c = search needs
 
--- src/lib.rt:281:29
 add-place : tie.Need-add-place
 add-place c = search needs
 
--- src/lib.rt:282:28
 element-copy-out-seen : tie.Need-element-copy-out-seen
 element-copy-out-seen c = search needs
 
--- src/lib.rt:282:28
 cast-seen : tie.Need-cast-seen
-cast-seen c = ?
+cast-seen c = let a = c .before .before .before .before .before .before .before .args in omega (arith, entry-fits (a .state .now) (a .slots .now) (a .k) (passed (c .before .before .before .before .before .before .before)) (omega arith) (getD (a .state .now) (1 + 3 * a .k + 1) 0) (getD (a .state .now) (1 + 3 * a .k + 2) 0) (omega arith) (omega arith))
 
--- src/lib.rt:284:36
 cast-slots : tie.Need-cast-slots
 cast-slots c = search needs
 
--- src/lib.rt:284:21
 element-write-slots : tie.Need-element-write-slots
 element-write-slots c = search needs
 
--- src/lib.rt:285:21
 returns : tie.Need-returns
-returns c = ?
+returns c =
+    let s = c .before .before .before .before .before .before .before .before in
+    let a = s .args in
+    (λ q. find-used (a .state .now) (a .slots .now) (a .k) (passed s) (omega arith) (omega arith) (omega arith) (omega arith) (c .if4 .taken), λ q. absurd (false≢true (sym q)))
 
--- src/lib.rt:287:17
 returns-2 : tie.Need-returns-2
-returns-2 c = ?
+returns-2 c =
+    let s = c .before .before .before .before .before .before .before .before in
+    let a = s .args in
+    (λ q. absurd (false≢true q), λ q. find-twice (a .state .now) (a .slots .now) (a .k) (passed s) (omega arith) (omega arith) (omega arith) (omega arith) (c .if4 .left))
 
--- src/lib.rt:289:13
 returns-3 : tie.Need-returns-3
-returns-3 c = ?
+returns-3 c =
+    let s = c .before .before .before .before .before .before in
+    let a = s .args in
+    (λ q. absurd (false≢true q), λ q. find-page (a .state .now) (a .slots .now) (a .k) (passed s) (omega arith) (omega arith) (omega arith) (omega arith))
 
--- src/lib.rt:291:9
 returns-4 : tie.Need-returns-4
-returns-4 c = ?
+returns-4 c =
+    let s = c .before .before .before .before .before in
+    let a = s .args in
+    (λ q. absurd (false≢true q), λ q. find-file (a .state .now) (a .slots .now) (a .k) (passed s) (omega arith) (omega arith) (omega arith))
 
--- src/lib.rt:296:17
 returns-5 : tie.Need-returns-5
-returns-5 c = ?
+returns-5 c =
+    let s = c .before .before .before .before .before .before .before in
+    let a = s .args in
+    (λ q. find-free (a .state .now) (a .slots .now) (a .k) (passed s) (omega arith) (omega arith) (omega arith) (omega arith), λ q. absurd (false≢true (sym q)))
 
--- src/lib.rt:298:13
 returns-6 : tie.Need-returns-6
-returns-6 c = ?
+returns-6 c =
+    let s = c .before .before .before .before .before .before .before in
+    let a = s .args in
+    (λ q. absurd (false≢true q), λ q. find-carried-page (a .state .now) (a .slots .now) (a .k) (passed s) (omega arith) (omega arith) (omega arith) (c .if7 .left))
 
--- src/lib.rt:300:9
 returns-7 : tie.Need-returns-7
-returns-7 c = ?
+returns-7 c =
+    let s = c .before .before .before .before .before .before in
+    let a = s .args in
+    (λ q. absurd (false≢true q), λ q. find-carried (a .state .now) (a .slots .now) (a .k) (passed s) (omega arith) (omega arith) (c .if6 .left))
 
--- src/lib.rt:270:1
 returns-8 : tie.Need-returns-8
-returns-8 c = ?
+returns-8 c =
+    let s = c .before .before .before .before .before in
+    let a = s .args in
+    (λ q. absurd (false≢true q), λ q. find-flag (a .state .now) (a .slots .now) (a .k) (passed s) (omega arith) (c .before .if1 .left) (c .if5 .left))
 
 pub find-slot-spec : {M : Type 1} → statement M
 find-slot-spec =

@@ -1,0 +1,70 @@
+-- `cache_state::find_slots` meets its contract: the slots before k pass.
+use mathlib.Core.Path.{_≡_, refl, sym, _∙_}
+use mathlib.Core.Bool.{false≢true}
+use Prim.Native.Nat.{_+_, _-_, _%_, _≤_}
+use native.Mathlib.Omega.{arith}
+use lib.ListN.{length}
+use borrow.Author.Needs.{needs}
+use Rattle.device.specs.Device.{slotCount}
+use Rattle.state_bytes.specs.Encoding.{stateBytes}
+use Rattle.cache_state.specs.Tables.{Passed}
+use Rattle.cache_state.proofs.Pass.{passed-none, passed-all, passed-table, passed-eight}
+use Rattle.cache_state.proofs.find_slots.Statement.{statement}
+use Rattle.cache_state.proofs.find_slots.Tie as tie
+
+abbrev Inv-loop : tie.InvT-loop
+Inv-loop state slots₀ k₀ slots k = Passed state slots k × (k ≤ slotCount) × (k % 8 ≡ 0) × (length state ≡ stateBytes)
+
+abbrev μ-loop : tie.MeasureT-loop
+μ-loop state slots₀ k₀ slots k = slotCount - k
+
+loop-holds : tie.Need-loop-holds Inv-loop μ-loop
+loop-holds c = (rw (c .before .pre .1) (passed-none (c .before .args .state .now)), search needs, search needs, search needs)
+
+eight-free-requires : tie.Need-eight-free-requires Inv-loop μ-loop
+eight-free-requires c κs = (search needs, omega arith)
+
+add-k : tie.Need-add-k Inv-loop μ-loop
+add-k c = omega arith
+
+loop-less : tie.Need-loop-less Inv-loop μ-loop
+loop-less c = omega arith
+
+loop-again : tie.Need-loop-again Inv-loop μ-loop
+loop-again c = (?, omega arith, omega arith, search needs)
+
+find-eight-requires : tie.Need-find-eight-requires Inv-loop μ-loop
+find-eight-requires c κs = (search needs, omega arith, ?)
+
+add-k-2 : tie.Need-add-k-2 Inv-loop μ-loop
+add-k-2 c = omega arith
+
+loop-less-2 : tie.Need-loop-less-2 Inv-loop μ-loop
+loop-less-2 c = omega arith
+
+loop-again-2 : tie.Need-loop-again-2 Inv-loop μ-loop
+loop-again-2 c = (?, omega arith, omega arith, search needs)
+
+returns : tie.Need-returns Inv-loop μ-loop
+returns c = ?
+
+returns-2 : tie.Need-returns-2 Inv-loop μ-loop
+returns-2 c = ?
+
+pub find-slots-spec : {M : Type 1} → statement M
+find-slots-spec =
+    tie.close
+    (tie.spec
+    Inv-loop
+    μ-loop
+    loop-holds
+    eight-free-requires
+    add-k
+    loop-less
+    loop-again
+    find-eight-requires
+    add-k-2
+    loop-less-2
+    loop-again-2
+    returns
+    returns-2)
