@@ -1,9 +1,10 @@
 -- `cache_state::files_in_order` meets its contract: the flag says whether all files below f pass.
-use mathlib.Core.Path.{sym, ap, _∙_}
-use Prim.Native.Nat.{_≤_, _-_}
+use mathlib.Core.Path.{_≡_, sym, _∙_}
+use Prim.Native.Nat.{ℕ, _≤_, _-_}
 use native.Mathlib.Omega.{arith}
 use mathlib.Core.Logic.{⊎-elim}
 use borrow.Author.Needs.{needs}
+use borrow.Author.Tests.{not-true, not-false}
 use Rattle.media.specs.Geometry.{files, fileBytes, pagesPerFile}
 use Rattle.device.specs.Sizes.{inOrder}
 use Rattle.device.specs.Sound.{sizesIn}
@@ -19,9 +20,9 @@ use Rattle.state_bytes.proofs.floor_at.Reads as floor-at-reads
 use Rattle.state_bytes.proofs.logical_at.Reads as logical-at-reads
 
 -- the sizes of a file, read one by one
-sizes-here : {stored : List ℕ} {s : CacheState} {f a b d : ℕ} → a ≡ getD (s .logical) f 0 → b ≡ getD (s .floor) f 0 → d ≡ getD stored f 0
-    → inOrder (fileBytes pagesPerFile) (sizesIn stored s f) ≡ inOrder (fileBytes pagesPerFile) (record { logical = a; floor = b; stored = d })
-sizes-here p q r = rw (p, q, r)
+sizes-here : (greatest : ℕ) {l k s l′ k′ s′ : ℕ} → l ≡ l′ → k ≡ k′ → s ≡ s′
+    → inOrder greatest (record { logical = l′; floor = k′; stored = s′ }) ≡ inOrder greatest (record { logical = l; floor = k; stored = s })
+sizes-here greatest p q r = rw (p, q, r)
 
 abbrev Inv-loop : tie.InvT-loop
 Inv-loop sizes state greatest all₀ f₀ all f =
@@ -58,7 +59,7 @@ loop-again : tie.Need-loop-again Inv-loop μ-loop
 loop-again c =
     let n = c .before in
     let l = n .before .before .before .before .before in
-    let t = sizes-here (n .before .before .before .logical-at .ensures) (n .before .before .floor-at .ensures) (n .before .stored-size .ensures) ∙ sym (n .in-order .ensures) in
+    let t = sizes-here (fileBytes pagesPerFile) (n .before .before .before .logical-at .ensures) (n .before .before .floor-at .ensures) (n .before .stored-size .ensures) ∙ sym (n .in-order .ensures) in
     (⊎-elim
     (λ w. rw (w .1) (flagged-below-fails (l .loop .inv .0) (t ∙ not-true _ (w .0 .taken))))
     (λ w. rw (w .1) (flagged-below-next (l .loop .inv .0) (t ∙ not-false _ (w .0 .left))))

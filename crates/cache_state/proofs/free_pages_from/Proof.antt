@@ -2,22 +2,15 @@
 use mathlib.Core.Path.{_≡_, refl, sym, ap, _∙_}
 use Prim.Native.Nat.{_≤_, _-_}
 use native.Mathlib.Omega.{arith}
-use native.Mathlib.Numerals.{add-one}
 use mathlib.Core.Logic.{⊎-elim}
 use lib.ListN.{length}
 use borrow.Author.Needs.{needs}
-use Rattle.device.specs.Device.{slotCount, freeSlot}
+use Rattle.device.specs.Device.{slotCount}
 use Rattle.state_bytes.specs.Encoding.{slotSet}
 use Rattle.cache_state.specs.Freeing.{isFrom, freedSlots}
 use Rattle.cache_state.proofs.Freeing.{freed-here, freed-none, length-freed}
 use Rattle.cache_state.proofs.free_pages_from.Statement.{statement}
 use Rattle.cache_state.proofs.free_pages_from.Tie as tie
-use Rattle.cache_state.proofs.free_pages_from.Reads as reads
-use Rattle.cache_state.proofs.free_pages_from.Lts as lts
-use Rattle.cache_state.proofs.free_slot.Reads as free-slot-reads
-use Rattle.cache_state.proofs.is_from.Reads as is-from-reads
-use Rattle.state_bytes.proofs.set_slot.Reads as set-slot-reads
-use Rattle.state_bytes.proofs.slot_at.Reads as slot-at-reads
 
 abbrev Inv-loop : tie.InvT-loop
 Inv-loop state₀ file n k₀ state k = (state ≡ freedSlots file n k state₀) × (k ≤ slotCount)
