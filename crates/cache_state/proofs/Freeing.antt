@@ -1,16 +1,14 @@
 -- Pages freed in the bytes of a state are freed in the state.
 use mathlib.Core.Path.{_≡_, refl, sym, ap, _∙_}
-use mathlib.Core.Bool.{Bool, true, false, cond, _&&_}
+use mathlib.Core.Bool.{true, false, cond, _&&_}
 use mathlib.Core.List.{List, [], _∷_, _++_, map}
 use Prim.Native.Nat.{ℕ, zero, suc, _+_, _*_, _≤_, _<_}
-use native.Mathlib.Nat.{not-suc-le-zero, le-of-suc-le-suc}
 use native.Mathlib.Numerals.{add-one}
 use native.Mathlib.Omega.{arith}
 use lib.Dec.{eqb, ltb}
-use lib.ListN.{length, getD, set, take, drop, length-set}
+use lib.ListN.{length, getD, set, take, drop}
 use lib.Seq.{set-getD}
 use borrow.Table.Steps.{cases}
-use Rattle.memory.specs.Bytes.{overwrite}
 use Rattle.memory.proofs.Bytes.{length-overwrite}
 use Rattle.scan.proofs.Loops.{map-more, map-done}
 use Rattle.device.specs.declared.Slot.{Slot}
@@ -76,7 +74,8 @@ module _ (f n : ℕ) (s : CacheState) (h : Shaped s) where
   freed-shaped : (k : ℕ) → Shaped (freed k)
   freed-shaped k = record { slots = length-mixed (freeWhere (pagesFrom f n)) k (s .slots) ∙ h .slots; logical = h .logical; floor = h .floor }
 
-  freed-next : (k : ℕ) → k < slotCount → cond (isFrom f n (getD (s .slots) k freeSlot)) (slotSet (encode (freed k)) k freeSlot) (encode (freed k)) ≡ encode (freed (suc k))
+  freed-next : (k : ℕ) → k < slotCount
+      → cond (isFrom f n (getD (s .slots) k freeSlot)) (slotSet (encode (freed k)) k freeSlot) (encode (freed k)) ≡ encode (freed (suc k))
   unfolding freeWhere
   freed-next k l =
       let g = freeWhere (pagesFrom f n) in

@@ -12,12 +12,6 @@ use Rattle.state_bytes.specs.Encoding.{decode}
 use Rattle.scan.proofs.Loops.{FlaggedBelow, flagged-below-none, flagged-below-fails, flagged-below-next, flagged-below-end}
 use Rattle.cache_state.proofs.files_in_order.Statement.{statement}
 use Rattle.cache_state.proofs.files_in_order.Tie as tie
-use Rattle.cache_state.proofs.files_in_order.Reads as reads
-use Rattle.cache_state.proofs.files_in_order.Lts as lts
-use Rattle.cache_state.proofs.in_order.Reads as in-order-reads
-use Rattle.cache_state.proofs.stored_size.Reads as stored-size-reads
-use Rattle.state_bytes.proofs.floor_at.Reads as floor-at-reads
-use Rattle.state_bytes.proofs.logical_at.Reads as logical-at-reads
 
 -- the sizes of a file, read one by one
 sizes-here : (greatest : ℕ) {l k s l′ k′ s′ : ℕ} → l ≡ l′ → k ≡ k′ → s ≡ s′
@@ -59,7 +53,9 @@ loop-again : tie.Need-loop-again Inv-loop μ-loop
 loop-again c =
     let n = c .before in
     let l = n .before .before .before .before .before in
-    let t = sizes-here (fileBytes pagesPerFile) (n .before .before .before .logical-at .ensures) (n .before .before .floor-at .ensures) (n .before .stored-size .ensures) ∙ sym (n .in-order .ensures) in
+    let t =
+      sizes-here (fileBytes pagesPerFile) (n .before .before .before .logical-at .ensures) (n .before .before .floor-at .ensures) (n .before .stored-size .ensures)
+      ∙ sym (n .in-order .ensures) in
     (⊎-elim
     (λ w. rw (w .1) (flagged-below-fails (l .loop .inv .0) (t ∙ not-true _ (w .0 .taken))))
     (λ w. rw (w .1) (flagged-below-next (l .loop .inv .0) (t ∙ not-false _ (w .0 .left))))
