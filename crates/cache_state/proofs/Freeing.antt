@@ -1,24 +1,107 @@
 -- Pages freed in the bytes of a state are freed in the state.
 use mathlib.Core.Path.{_≡_, refl, sym, ap, _∙_}
-use mathlib.Core.Bool.{Bool, true, false, cond, _&&_}
-use mathlib.Core.List.{List, _++_, map}
-use Prim.Native.Nat.{ℕ, zero, suc, _+_, _≤_, _<_}
+use mathlib.Core.Bool.{true, false, cond, _&&_}
+use mathlib.Core.List.{List, [], _∷_, _++_, map}
+use Prim.Native.Nat.{ℕ, zero, suc, _+_, _*_, _≤_, _<_}
 use native.Mathlib.Numerals.{add-one}
 use native.Mathlib.Omega.{arith}
-use lib.ListN.{length, getD, set, take, drop, length-map, length-append, length-set}
+use lib.Dec.{eqb, ltb}
+use lib.ListN.{length, getD, set, take, drop}
 use lib.Seq.{set-getD}
 use borrow.Table.Steps.{cases}
+use Rattle.memory.proofs.Bytes.{length-overwrite}
 use Rattle.scan.proofs.Loops.{map-more, map-done}
 use Rattle.device.specs.declared.Slot.{Slot}
 use Rattle.device.specs.declared.CacheState.{CacheState}
 use Rattle.device.specs.Device.{slotCount, freeSlot, freeWhere, withSlots}
 use Rattle.device.specs.Truncating.{pagesFrom}
-use Rattle.state_bytes.specs.Encoding.{encode, decode, slotSet}
+use Rattle.device.specs.Syncing.{pagesOf}
+use Rattle.device.proofs.Syncing.{free-all}
+use Rattle.state_bytes.specs.Encoding.{stateBytes, slotsAt, slotBytes, encode, decode, slotSet}
 use Rattle.state_bytes.specs.Inverse.{Shaped}
 use Rattle.state_bytes.proofs.Inverse.{inverse}
 use Rattle.state_bytes.proofs.InPlace.{slot-set}
 use Rattle.cache_state.specs.Freeing.{isFrom, freedSlots}
 
+-- ---- one slot more
+
+module _ (f n k : ℕ) (bytes state : List ℕ) (h : state ≡ freedSlots f n k bytes) where
+  pub freed-here : isFrom f n (getD (decode state .slots) k freeSlot) ≡ true → slotSet state k freeSlot ≡ freedSlots f n (k + 1) bytes
+  unfolding freedSlots
+  freed-here e = rw (add-one, ← h, e)
+
+  pub freed-none : isFrom f n (getD (decode state .slots) k freeSlot) ≡ false → state ≡ freedSlots f n (k + 1) bytes
+  unfolding freedSlots
+  freed-none e = rw (add-one, ← h, e)
+
+-- ---- the length of the bytes stays
+
+length-slot-set : (bytes : List ℕ) (k : ℕ) (x : Slot) → length (slotSet bytes k x) ≡ length bytes
+unfolding slotSet
+length-slot-set bytes k x =
+    cases (eqb (length bytes) stateBytes && ltb k slotCount)
+    (λ e. rw e (length-overwrite bytes (slotsAt + 3 * k) (slotBytes x)))
+    (λ e. rw e)
+
+pub length-freed : (f n k : ℕ) (bytes : List ℕ) → length (freedSlots f n k bytes) ≡ length bytes
+unfolding freedSlots
+length-freed f n zero bytes = refl
+length-freed f n (suc k) bytes =
+    let before = freedSlots f n k bytes in
+    cases (isFrom f n (getD (decode before .slots) k freeSlot))
+    (λ e. rw e (length-slot-set before k freeSlot ∙ length-freed f n k bytes))
+    (λ e. rw e (length-freed f n k bytes))
+
+-- ---- the bytes of a state
+
+module _ {A : Type 0} (g : A → A) where
+  -- the first k are mapped: their number stays, and the next is as it came
+  length-mixed : (k : ℕ) (xs : List A) → length (map g (take k xs) ++ drop k xs) ≡ length xs
+  length-mixed zero xs = refl
+  length-mixed (suc k) [] = refl
+  length-mixed (suc k) (x ∷ xs) = ap suc (length-mixed k xs)
+
+  getD-mixed : (k : ℕ) (xs : List A) (d : A) → getD (map g (take k xs) ++ drop k xs) k d ≡ getD xs k d
+  getD-mixed zero xs d = refl
+  getD-mixed (suc k) [] d = refl
+  getD-mixed (suc k) (x ∷ xs) d = getD-mixed k xs d
+
 module _ (f n : ℕ) (s : CacheState) (h : Shaped s) where
-  abbrev freed : ℕ → List Slot
-  freed k = map (freeWhere (pagesFrom f n)) (take k (s .slots)) ++ drop k (s .slots)
+  -- the state with the first k slots freed
+  abbrev freed : ℕ → CacheState
+  freed k = withSlots s (map (freeWhere (pagesFrom f n)) (take k (s .slots)) ++ drop k (s .slots))
+
+  freed-shaped : (k : ℕ) → Shaped (freed k)
+  freed-shaped k = record { slots = length-mixed (freeWhere (pagesFrom f n)) k (s .slots) ∙ h .slots; logical = h .logical; floor = h .floor }
+
+  freed-next : (k : ℕ) → k < slotCount
+      → cond (isFrom f n (getD (s .slots) k freeSlot)) (slotSet (encode (freed k)) k freeSlot) (encode (freed k)) ≡ encode (freed (suc k))
+  unfolding freeWhere
+  freed-next k l =
+      let g = freeWhere (pagesFrom f n) in
+      let x = getD (s .slots) k freeSlot in
+      let m = rw add-one at (map-more g k (s .slots) freeSlot (omega (arith, h .slots))) in
+      cases (isFrom f n x)
+      (λ e.
+      let q : g x ≡ freeSlot = rw e in
+      rw e (slot-set (freed k) (freed-shaped k) k freeSlot ∙ ap (λ (l : List Slot). encode (withSlots s l)) (ap (set (freed k .slots) k) (sym q) ∙ m)))
+      (λ e.
+      let q : g x ≡ x = rw e in
+      rw e
+      (ap (λ (l : List Slot). encode (withSlots s l))
+      (sym (set-getD (freed k .slots) k freeSlot) ∙ ap (set (freed k .slots) k) (getD-mixed g k (s .slots) freeSlot ∙ sym q) ∙ m)))
+
+  freed-steps : (k : ℕ) → k ≤ slotCount → freedSlots f n k (encode s) ≡ encode (freed k)
+  unfolding freedSlots
+  freed-steps zero l = refl
+  freed-steps (suc k) l =
+      rw (freed-steps k (omega arith), inverse .there-and-back (freed k) (freed-shaped k), getD-mixed (freeWhere (pagesFrom f n)) k (s .slots) freeSlot) (freed-next k l)
+
+  pub freed-encoded : freedSlots f n slotCount (encode s) ≡ encode (withSlots s (map (freeWhere (pagesFrom f n)) (s .slots)))
+  freed-encoded =
+      freed-steps slotCount (omega arith)
+      ∙ ap (λ (l : List Slot). encode (withSlots s l)) (map-done (freeWhere (pagesFrom f n)) slotCount (s .slots) (omega (arith, h .slots)))
+
+-- all pages of a file are freed
+pub freed-all-encoded : (f : ℕ) (s : CacheState) → Shaped s → freedSlots f 0 slotCount (encode s) ≡ encode (withSlots s (map (freeWhere (pagesOf f)) (s .slots)))
+freed-all-encoded f s h = freed-encoded f 0 s h ∙ ap (λ (l : List Slot). encode (withSlots s l)) (free-all f (s .slots))

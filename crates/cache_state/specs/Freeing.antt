@@ -13,7 +13,7 @@ abbrev pub isFrom : ℕ → ℕ → Slot → Bool
 isFrom f n s = s .used && pagesFrom f n (s .file) (s .page)
 
 -- of the first k slots those that hold such a page are free
-abbrev pub freedSlots : ℕ → ℕ → ℕ → List ℕ → List ℕ
+unfoldable pub freedSlots : ℕ → ℕ → ℕ → List ℕ → List ℕ
 freedSlots f n zero bytes = bytes
 freedSlots f n (suc k) bytes =
     let before : List ℕ = freedSlots f n k bytes in

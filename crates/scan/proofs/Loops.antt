@@ -1,6 +1,6 @@
 -- Loops over a list, one turn at a time: what the turns so far have shown.
 use mathlib.Core.Path.{_≡_, refl, sym, ap, _∙_}
-use mathlib.Core.Bool.{Bool, true, false, _&&_}
+use mathlib.Core.Bool.{Bool, true, false, _&&_, and-true, and-false}
 use mathlib.Core.List.{List, [], _∷_, map, _++_, append-nil}
 use Prim.Native.Nat.{ℕ, zero, suc, _+_, _<_, _≤_}
 use native.Mathlib.Nat.{not-suc-le-zero, le-of-suc-le-suc}
@@ -69,20 +69,12 @@ module _ {A : Type 0} {t : A → Bool} {xs : List A} where
   module _ (d : A) {i : ℕ} {b : Bool} (s : Flagged t xs i b) where
     pub flagged-fails : i < length xs → t (getD xs i d) ≡ false → Flagged t xs (i + 1) false
     flagged-fails h e = record { so-far = s .so-far ∙ rw (drop-cons xs i d h, e) (and-false b) }
-      where
-        and-false : (a : Bool) → a && false ≡ false
-        and-false true = refl
-        and-false false = refl
 
     pub flagged-next : i < length xs → t (getD xs i d) ≡ true → Flagged t xs (i + 1) b
     flagged-next h e = record { so-far = s .so-far ∙ rw (drop-cons xs i d h, e, add-one) }
 
     pub flagged-end : length xs ≤ i → b ≡ every t xs
-    flagged-end h = sym (s .so-far ∙ rw (drop-of-length-le xs h) (and-yes b))
-      where
-        and-yes : (a : Bool) → a && true ≡ a
-        and-yes true = refl
-        and-yes false = refl
+    flagged-end h = sym (s .so-far ∙ rw (drop-of-length-le xs h) (and-true b))
 
 -- ---- a check of every number
 
@@ -103,6 +95,26 @@ module _ {t : ℕ → Bool} where
 
     pub below-end : (n : ℕ) → i ≡ n → true ≡ everyBelow n t
     below-end n e = rw (← e) (sym (s .so-far))
+
+-- ---- a check of every number that goes to the end
+
+-- b: every number below i passes
+pub record FlaggedBelow (t : ℕ → Bool) (i : ℕ) (b : Bool) : Type 0 where
+  pub so-far : b ≡ everyBelow i t
+
+module _ {t : ℕ → Bool} where
+  pub flagged-below-none : FlaggedBelow t 0 true
+  flagged-below-none = record { so-far = refl }
+
+  module _ {i : ℕ} {b : Bool} (s : FlaggedBelow t i b) where
+    pub flagged-below-fails : t i ≡ false → FlaggedBelow t (i + 1) false
+    flagged-below-fails e = record { so-far = rw (add-one, e) (sym (and-false (everyBelow i t))) }
+
+    pub flagged-below-next : t i ≡ true → FlaggedBelow t (i + 1) b
+    flagged-below-next e = record { so-far = rw (add-one, e) (s .so-far ∙ sym (and-true (everyBelow i t))) }
+
+    pub flagged-below-end : (n : ℕ) → i ≡ n → b ≡ everyBelow n t
+    flagged-below-end n e = rw (← e) (s .so-far)
 
 -- ---- a list mapped in place
 

@@ -1,57 +1,68 @@
+-- `cache_state::files_in_order` meets its contract: the flag says whether all files below f pass.
+use mathlib.Core.Path.{_≡_, sym, _∙_}
+use Prim.Native.Nat.{ℕ, _≤_, _-_}
+use native.Mathlib.Omega.{arith}
+use mathlib.Core.Logic.{⊎-elim}
+use borrow.Author.Needs.{needs}
+use borrow.Author.Tests.{not-true, not-false}
+use Rattle.media.specs.Geometry.{files, fileBytes, pagesPerFile}
+use Rattle.device.specs.Sizes.{inOrder}
+use Rattle.device.specs.Sound.{sizesIn}
+use Rattle.state_bytes.specs.Encoding.{decode}
+use Rattle.scan.proofs.Loops.{FlaggedBelow, flagged-below-none, flagged-below-fails, flagged-below-next, flagged-below-end}
 use Rattle.cache_state.proofs.files_in_order.Statement.{statement}
 use Rattle.cache_state.proofs.files_in_order.Tie as tie
-use Rattle.cache_state.proofs.files_in_order.Reads as reads
-use Rattle.cache_state.proofs.files_in_order.Lts as lts
-use Rattle.cache_state.proofs.in_order.Reads as in-order-reads
-use Rattle.cache_state.proofs.stored_size.Reads as stored-size-reads
-use Rattle.state_bytes.proofs.floor_at.Reads as floor-at-reads
-use Rattle.state_bytes.proofs.logical_at.Reads as logical-at-reads
+
+-- the sizes of a file, read one by one
+sizes-here : (greatest : ℕ) {l k s l′ k′ s′ : ℕ} → l ≡ l′ → k ≡ k′ → s ≡ s′
+    → inOrder greatest (record { logical = l′; floor = k′; stored = s′ }) ≡ inOrder greatest (record { logical = l; floor = k; stored = s })
+sizes-here greatest p q r = rw (p, q, r)
 
 abbrev Inv-loop : tie.InvT-loop
-Inv-loop sizes state greatest all₀ f₀ all f = ?
+Inv-loop sizes state greatest all₀ f₀ all f =
+    FlaggedBelow (λ f. inOrder (fileBytes pagesPerFile) (sizesIn sizes (decode state) f)) f all × (f ≤ files)
 
 abbrev μ-loop : tie.MeasureT-loop
-μ-loop sizes state greatest all₀ f₀ all f = ?
+μ-loop sizes state greatest all₀ f₀ all f = files - f
 
--- src/lib.rt:345:20
 mul-greatest : tie.Need-mul-greatest Inv-loop μ-loop
-mul-greatest c = ?
+mul-greatest c = search needs
 
--- src/lib.rt:348:5
 loop-holds : tie.Need-loop-holds Inv-loop μ-loop
-loop-holds c = ?
+loop-holds c = (flagged-below-none, search needs)
 
--- src/lib.rt:350:22
 logical-at-requires : tie.Need-logical-at-requires Inv-loop μ-loop
-logical-at-requires c κs = ?
+logical-at-requires c κs = search needs
 
--- src/lib.rt:351:20
 floor-at-requires : tie.Need-floor-at-requires Inv-loop μ-loop
-floor-at-requires c κs = ?
+floor-at-requires c κs = search needs
 
--- src/lib.rt:352:21
 stored-size-requires : tie.Need-stored-size-requires Inv-loop μ-loop
-stored-size-requires c κs = ?
+stored-size-requires c κs = search needs
 
--- src/lib.rt:354:13
 in-order-requires : tie.Need-in-order-requires Inv-loop μ-loop
-in-order-requires c κs = ?
+in-order-requires c κs = search needs
 
--- src/lib.rt:357:9
 add-f : tie.Need-add-f Inv-loop μ-loop
-add-f c = ?
+add-f c = search needs
 
--- src/lib.rt:348:5
 loop-less : tie.Need-loop-less Inv-loop μ-loop
-loop-less c = ?
+loop-less c = search needs
 
--- src/lib.rt:348:5
 loop-again : tie.Need-loop-again Inv-loop μ-loop
-loop-again c = ?
+loop-again c =
+    let n = c .before in
+    let l = n .before .before .before .before .before in
+    let t =
+      sizes-here (fileBytes pagesPerFile) (n .before .before .before .logical-at .ensures) (n .before .before .floor-at .ensures) (n .before .stored-size .ensures)
+      ∙ sym (n .in-order .ensures) in
+    (⊎-elim
+    (λ w. rw (w .1) (flagged-below-fails (l .loop .inv .0) (t ∙ not-true _ (w .0 .taken))))
+    (λ w. rw (w .1) (flagged-below-next (l .loop .inv .0) (t ∙ not-false _ (w .0 .left))))
+    (c .if1 .came), search needs)
 
--- src/lib.rt:342:1
 returns : tie.Need-returns Inv-loop μ-loop
-returns c = ?
+returns c = flagged-below-end (c .before .loop .inv .0) files (omega arith)
 
 pub files-in-order-spec : {M : Type 1} → statement M
 files-in-order-spec =

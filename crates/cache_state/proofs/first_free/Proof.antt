@@ -1,42 +1,46 @@
+-- `cache_state::first_free` meets its contract: none of the slots before k is free.
+use mathlib.Core.Path.{_≡_, sym, ap, _∙_}
+use Prim.Native.Nat.{_≤_, _-_}
+use native.Mathlib.Omega.{arith}
+use lib.ListN.{length}
+use borrow.Author.Needs.{needs}
+use Rattle.device.specs.Device.{slotCount, isFree, freeSlot}
+use Rattle.state_bytes.specs.Encoding.{decode}
+use Rattle.state_bytes.proofs.InPlace.{shaped}
+use Rattle.scan.proofs.Loops.{Searched, searched-none, searched-here, searched-next, searched-end}
 use Rattle.cache_state.proofs.first_free.Statement.{statement}
 use Rattle.cache_state.proofs.first_free.Tie as tie
-use Rattle.cache_state.proofs.first_free.Reads as reads
-use Rattle.cache_state.proofs.first_free.Lts as lts
-use Rattle.state_bytes.proofs.slot_at.Reads as slot-at-reads
 
 abbrev Inv-loop : tie.InvT-loop
-Inv-loop state k₀ k = ?
+Inv-loop state k₀ k = Searched isFree (decode state .slots) k × (k ≤ slotCount) × (length (decode state .slots) ≡ slotCount)
 
 abbrev μ-loop : tie.MeasureT-loop
-μ-loop state k₀ k = ?
+μ-loop state k₀ k = slotCount - k
 
--- src/lib.rt:34:5
 loop-holds : tie.Need-loop-holds Inv-loop μ-loop
-loop-holds c = ?
+loop-holds c = (searched-none, search needs, shaped _ .slots)
 
--- src/lib.rt:35:13
 slot-at-requires : tie.Need-slot-at-requires Inv-loop μ-loop
-slot-at-requires c κs = ?
+slot-at-requires c κs = search needs
 
--- src/lib.rt:37:13
 returns : tie.Need-returns Inv-loop μ-loop
-returns c = ?
+returns c =
+    let l = c .before .before .before .before in
+    searched-here freeSlot (l .loop .inv .0) (omega arith) (ap isFree (sym (c .before .before .slot-at .ensures)) ∙ c .if1 .taken)
 
--- src/lib.rt:39:9
 add-k : tie.Need-add-k Inv-loop μ-loop
-add-k c = ?
+add-k c = search needs
 
--- src/lib.rt:34:5
 loop-less : tie.Need-loop-less Inv-loop μ-loop
-loop-less c = ?
+loop-less c = search needs
 
--- src/lib.rt:34:5
 loop-again : tie.Need-loop-again Inv-loop μ-loop
-loop-again c = ?
+loop-again c =
+    let l = c .before .before .before .before in
+    (searched-next freeSlot (l .loop .inv .0) (omega arith) (ap isFree (sym (c .before .before .slot-at .ensures)) ∙ c .if1 .left), search needs, search needs)
 
--- src/lib.rt:30:1
 returns-2 : tie.Need-returns-2 Inv-loop μ-loop
-returns-2 c = ?
+returns-2 c = searched-end freeSlot (c .before .loop .inv .0) slotCount (omega arith) (omega arith)
 
 pub first-free-spec : {M : Type 1} → statement M
 first-free-spec =

@@ -1,57 +1,69 @@
+-- `cache_state::free_pages_from` meets its contract: of the slots before k those of such pages are free.
+use mathlib.Core.Path.{_≡_, refl, sym, ap, _∙_}
+use Prim.Native.Nat.{_≤_, _-_}
+use native.Mathlib.Omega.{arith}
+use mathlib.Core.Logic.{⊎-elim}
+use lib.ListN.{length}
+use borrow.Author.Needs.{needs}
+use Rattle.device.specs.Device.{slotCount}
+use Rattle.state_bytes.specs.Encoding.{slotSet}
+use Rattle.cache_state.specs.Freeing.{isFrom, freedSlots}
+use Rattle.cache_state.proofs.Freeing.{freed-here, freed-none, length-freed}
 use Rattle.cache_state.proofs.free_pages_from.Statement.{statement}
 use Rattle.cache_state.proofs.free_pages_from.Tie as tie
-use Rattle.cache_state.proofs.free_pages_from.Reads as reads
-use Rattle.cache_state.proofs.free_pages_from.Lts as lts
-use Rattle.cache_state.proofs.free_slot.Reads as free-slot-reads
-use Rattle.cache_state.proofs.is_from.Reads as is-from-reads
-use Rattle.state_bytes.proofs.set_slot.Reads as set-slot-reads
-use Rattle.state_bytes.proofs.slot_at.Reads as slot-at-reads
 
 abbrev Inv-loop : tie.InvT-loop
-Inv-loop state₀ file n k₀ state k = ?
+Inv-loop state₀ file n k₀ state k = (state ≡ freedSlots file n k state₀) × (k ≤ slotCount)
 
 abbrev μ-loop : tie.MeasureT-loop
-μ-loop state₀ file n k₀ state k = ?
+μ-loop state₀ file n k₀ state k = slotCount - k
 
--- src/lib.rt:73:5
 loop-holds : tie.Need-loop-holds Inv-loop μ-loop
-loop-holds c = ?
+unfolding freedSlots
+loop-holds c = (refl, search needs)
 
--- src/lib.rt:74:20
 slot-at-requires : tie.Need-slot-at-requires Inv-loop μ-loop
-slot-at-requires c κs = ?
+slot-at-requires c κs = search needs
 
--- src/lib.rt:74:12
 is-from-requires : tie.Need-is-from-requires Inv-loop μ-loop
-is-from-requires c κs = ?
+is-from-requires c κs = search needs
 
--- src/lib.rt:75:45
 free-slot-requires : tie.Need-free-slot-requires Inv-loop μ-loop
-free-slot-requires c κs = ?
+free-slot-requires c κs = search needs
 
--- src/lib.rt:75:13
 set-slot-requires : tie.Need-set-slot-requires Inv-loop μ-loop
-set-slot-requires c κs = ?
+set-slot-requires c κs = search needs
 
--- src/lib.rt:77:9
 add-k : tie.Need-add-k Inv-loop μ-loop
-add-k c = ?
+add-k c = search needs
 
--- src/lib.rt:73:5
 loop-less : tie.Need-loop-less Inv-loop μ-loop
-loop-less c = ?
+loop-less c = search needs
 
--- src/lib.rt:73:5
 loop-again : tie.Need-loop-again Inv-loop μ-loop
-loop-again c = ?
+loop-again c =
+    let l = c .before .before .before .before .before in
+    let a = l .before .before .args in
+    let k = l .loop .k in
+    let state = l .loop .state in
+    let t = ap (isFrom (a .file) (a .n)) (sym (c .before .before .slot-at .ensures)) ∙ sym (c .before .is-from .ensures) in
+    (⊎-elim
+    (λ w.
+    w .6 ∙ w .3 .ensures ∙ ap (slotSet state k) (w .2 .ensures)
+    ∙ freed-here (a .file) (a .n) k (a .state .now) state (l .loop .inv .0) (t ∙ w .0 .taken))
+    (λ w. w .1 ∙ freed-none (a .file) (a .n) k (a .state .now) state (l .loop .inv .0) (t ∙ w .0 .left))
+    (c .if1 .came), search needs)
 
--- src/lib.rt:69:1
 same-length : tie.Need-same-length Inv-loop μ-loop
-same-length c = ?
+same-length c =
+    let a = c .before .before .before .args in
+    ap length (c .before .loop .inv .0) ∙ length-freed (a .file) (a .n) (c .before .loop .k) (a .state .now)
 
--- src/lib.rt:69:1
 returns : tie.Need-returns Inv-loop μ-loop
-returns c = ?
+returns c =
+    let a = c .before .before .before .args in
+    let e : c .before .loop .k ≡ slotCount = omega arith in
+    c .before .loop .inv .0 ∙ ap (λ k. freedSlots (a .file) (a .n) k (a .state .now)) e
 
 pub free-pages-from-spec : {M : Type 1} → statement M
 free-pages-from-spec =
