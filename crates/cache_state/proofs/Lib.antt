@@ -1,2 +1,3 @@
 pub mod Freeing
 pub mod Pass
+pub mod Soundness

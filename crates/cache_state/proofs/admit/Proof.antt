@@ -1,39 +1,54 @@
+-- `cache_state::admit` meets its contract: a refusal of `admit_device` stands; or else `admit_state` decides.
+use mathlib.Core.Path.{refl, _∙_}
+use mathlib.Core.List.{List}
 use borrow.Author.Needs.{needs}
+use Rattle.answer.specs.Admission.{Test}
+use Rattle.answer.proofs.Admission.{then-refused, then-rest}
+use Rattle.media.specs.Geometry.{pagesPerFile}
+use Rattle.media.specs.Write.{mediaOf}
+use Rattle.device.specs.Admission.{mediaShape, framesShape, sizesFit, stateTests, deviceTests}
+use Rattle.state_bytes.specs.Encoding.{decode}
+use Rattle.cache_state.proofs.Soundness.{table-refused, refused-not-done}
 use Rattle.cache_state.proofs.admit.Statement.{statement}
 use Rattle.cache_state.proofs.admit.Tie as tie
-use Rattle.cache_state.proofs.admit.Reads as reads
-use Rattle.cache_state.proofs.admit.Lts as lts
-use Rattle.cache_state.proofs.admit_device.Reads as admit-device-reads
-use Rattle.cache_state.proofs.admit_state.Reads as admit-state-reads
-use Rattle.cache_state.proofs.none_cached.Reads as none-cached-reads
 
--- src/lib.rt:428:9
+-- the tests of `admit_device`, and those after them
+abbrev first : tie.After-admit-device → List Test
+first c = let a = c .before .before .before .before .before .args in deviceTests pagesPerFile (mediaOf (a .media .now) (a .sizes .now)) (a .frames .now)
+
+abbrev rest : tie.After-admit-device → List Test
+rest c = let a = c .before .before .before .before .before .args in stateTests pagesPerFile (a .sizes .now) (decode (a .state .now)) (a .file) (a .range)
+
 admit-device-requires : tie.Need-admit-device-requires
 admit-device-requires c κs = search needs
 
--- src/lib.rt:430:25
 enum-known-admission : tie.Need-enum-known-admission
 enum-known-admission c = search needs
 
--- src/lib.rt:431:22
 none-cached-requires : tie.Need-none-cached-requires
 none-cached-requires c κs = search needs
 
--- src/lib.rt:434:67
 enum-told : tie.Need-enum-told
 enum-told c = search needs
 
--- src/lib.rt:434:28
 admit-state-requires : tie.Need-admit-state-requires
 admit-state-requires c κs = search needs
 
--- src/lib.rt:415:1
 returns : tie.Need-returns
-returns c = ?
+returns c =
+    let b = c .before .before .before .before in (
+      then-refused (first b) (rest b) _ (b .admit-device .ensures) _ (c .before .before .admission .given .1),
+      c .none-cached .ensures ∙ table-refused (c .before .before .admission .given .0 .0) (decode (b .before .before .before .before .before .args .state .now) .slots),
+      λ q. absurd (refused-not-done (c .before .before .admission .given .0 .0) (decode (b .before .before .before .before .before .args .state .now) .slots) q),
+    )
 
--- src/lib.rt:415:1
 returns-2 : tie.Need-returns-2
-returns-2 c = ?
+unfolding mediaShape framesShape sizesFit
+returns-2 c =
+    let s = c .before in
+    let b = s .before .before .before in
+    let e = c .admit-state .ensures in
+    (e .0 ∙ then-rest (first b) (rest b) _ (b .admit-device .ensures) refl _ (s .before .enum-told .given .1), e .1, e .2)
 
 pub admit-spec : {M : Type 1} → statement M
 admit-spec =

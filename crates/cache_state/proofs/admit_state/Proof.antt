@@ -1,55 +1,79 @@
+-- `cache_state::admit_state` meets its contract: a sound state, then the tests of a mounted one.
+use mathlib.Core.Path.{_≡_, refl, sym, _∙_}
+use native.Mathlib.Omega.{arith}
+use Rattle.answer.specs.declared.Refusal.the-variants.{Books}
+use Rattle.answer.specs.Coded.{done}
+use Rattle.answer.specs.Admission.{Test}
+use Rattle.answer.proofs.Coded.{coded-of}
+use Rattle.answer.proofs.Admission.{answer-passed, first-all}
+use mathlib.Core.List.{List}
+use lib.ListN.{getD}
+use Rattle.device.specs.Admission.{mountedTests}
+use Rattle.state_bytes.specs.Encoding.{decode}
+use Rattle.cache_state.proofs.Soundness.{table-refused, refused-not-done, table-done, rest-sound, rest-unsound}
 use borrow.Author.Needs.{needs}
 use Rattle.cache_state.proofs.admit_state.Statement.{statement}
 use Rattle.cache_state.proofs.admit_state.Tie as tie
-use Rattle.cache_state.proofs.admit_state.Reads as reads
-use Rattle.cache_state.proofs.admit_state.Lts as lts
-use Rattle.cache_state.proofs.admit_mounted.Reads as admit-mounted-reads
-use Rattle.cache_state.proofs.is_sound.Reads as is-sound-reads
-use Rattle.cache_state.proofs.none_cached.Reads as none-cached-reads
 
--- src/lib.rt:397:14
 none-cached-requires : tie.Need-none-cached-requires
 none-cached-requires c κs = search needs
 
--- src/lib.rt:398:8
 is-sound-requires : tie.Need-is-sound-requires
 is-sound-requires c κs = search needs
 
--- src/lib.rt:399:36
 shared-slice-read-admit-mounted : tie.Need-shared-slice-read-admit-mounted
-shared-slice-read-admit-mounted c = ?
+shared-slice-read-admit-mounted c = omega (arith, (c .before .before .is-sound .ensures .1 (c .before .if1 .taken)) .2 .0)
 
--- src/lib.rt:399:13
 admit-mounted-requires : tie.Need-admit-mounted-requires
 admit-mounted-requires c κs = search needs
 
--- src/lib.rt:401:29
 enum-known-answer : tie.Need-enum-known-answer
 enum-known-answer c = search needs
 
--- src/lib.rt:402:26
 none-cached-requires-2 : tie.Need-none-cached-requires-2
 none-cached-requires-2 c κs = search needs
 
--- src/lib.rt:403:17
 returns : tie.Need-returns
-returns c = ?
+returns c =
+    let m = c .before .before .before .before in
+    let i = c .before .before .before .before .before .before .before in
+    let a = c .before .before .before .before .before .before .before .before .before .before .before .before .args in
+    let r = c .before .before .answer .given .0 in (
+      rest-sound (a .sizes .now) (a .state .now) (a .file) (a .range) _ _ (sym (i .is-sound .ensures .0) ∙ c .before .before .before .before .before .before .if1 .taken)
+          (i .is-sound .ensures .1 (c .before .before .before .before .before .before .if1 .taken) .2 .1) (coded-of _ _ _ (c .before .before .answer .given .1) (m .admit-mounted .ensures)),
+      c .none-cached2 .ensures ∙ table-refused _ _,
+      λ q. absurd (refused-not-done _ (decode (a .state .now) .slots) q),
+    )
 
--- src/lib.rt:406:17
 enum-told : tie.Need-enum-told
 enum-told c = search needs
 
--- src/lib.rt:406:17
-returns-2 : tie.Need-returns-2
-returns-2 c = ?
+abbrev tests : tie.After-enum-told → List Test
+tests c = let a = c .before .before .before .before .before .before .before .before .before .before .args in mountedTests (getD (a .state .now) 0 0) (a .file) (a .range)
 
--- src/lib.rt:410:14
+returns-2 : tie.Need-returns-2
+returns-2 c =
+    let m = c .before .before in
+    let i = c .before .before .before .before .before in
+    let a = c .before .before .before .before .before .before .before .before .before .before .args in
+    let h = i .is-sound .ensures .1 (c .before .before .before .before .if1 .taken) in (
+      rest-sound (a .sizes .now) (a .state .now) (a .file) (a .range) _ _ (sym (i .is-sound .ensures .0) ∙ c .before .before .before .before .if1 .taken)
+          (h .2 .1) (sym (first-all (tests c) (done 0) (answer-passed (tests c) _ _ refl (m .admit-mounted .ensures) (c .enum-told .given .1)))),
+      h .0 ∙ table-done 0 _,
+      λ q. h .1,
+    )
+
 none-cached-requires-3 : tie.Need-none-cached-requires-3
 none-cached-requires-3 c κs = search needs
 
--- src/lib.rt:386:1
 returns-3 : tie.Need-returns-3
-returns-3 c = ?
+returns-3 c =
+    let i = c .before .before in
+    let a = c .before .before .before .before .before .before .before .args in (
+      rest-unsound (a .sizes .now) (a .state .now) (a .file) (a .range) (sym (i .is-sound .ensures .0) ∙ c .before .if1 .left),
+      c .none-cached3 .ensures ∙ table-refused Books _,
+      λ q. absurd (refused-not-done Books (decode (a .state .now) .slots) q),
+    )
 
 pub admit-state-spec : {M : Type 1} → statement M
 admit-state-spec =

@@ -45,9 +45,14 @@ loop-again c =
     let l = c .before .before .before in
     let a = l .before .args in (
       ⊎-elim
-      (λ w. w .1 ∙ zeros-stop (a .state .now) (slotsAt + 3 * a .k) (l .loop .i) (l .loop .free) (l .loop .inv .0) (w .0 .taken))
-      (λ w. w .1 ∙ zeros-next (a .state .now) (slotsAt + 3 * a .k) (l .loop .i) (l .loop .free) (l .loop .inv .0) (w .0 .left))
-      (c .if1 .came), search needs, search needs, search needs, search needs)
+          (λ w. w .1 ∙ zeros-stop (a .state .now) (slotsAt + 3 * a .k) (l .loop .i) (l .loop .free) (l .loop .inv .0) (w .0 .taken))
+          (λ w. w .1 ∙ zeros-next (a .state .now) (slotsAt + 3 * a .k) (l .loop .i) (l .loop .free) (l .loop .inv .0) (w .0 .left))
+          (c .if1 .came),
+      search needs,
+      search needs,
+      search needs,
+      search needs,
+    )
 
 returns : tie.Need-returns Inv-loop μ-loop
 returns c =

@@ -54,12 +54,14 @@ loop-again c =
     let n = c .before in
     let l = n .before .before .before .before .before in
     let t =
-      sizes-here (fileBytes pagesPerFile) (n .before .before .before .logical-at .ensures) (n .before .before .floor-at .ensures) (n .before .stored-size .ensures)
-      ∙ sym (n .in-order .ensures) in
-    (⊎-elim
-    (λ w. rw (w .1) (flagged-below-fails (l .loop .inv .0) (t ∙ not-true _ (w .0 .taken))))
-    (λ w. rw (w .1) (flagged-below-next (l .loop .inv .0) (t ∙ not-false _ (w .0 .left))))
-    (c .if1 .came), search needs)
+    sizes-here (fileBytes pagesPerFile) (n .before .before .before .logical-at .ensures) (n .before .before .floor-at .ensures) (n .before .stored-size .ensures)
+    ∙ sym (n .in-order .ensures) in (
+      ⊎-elim
+          (λ w. rw (w .1) (flagged-below-fails (l .loop .inv .0) (t ∙ not-true _ (w .0 .taken))))
+          (λ w. rw (w .1) (flagged-below-next (l .loop .inv .0) (t ∙ not-false _ (w .0 .left))))
+          (c .if1 .came),
+      search needs,
+    )
 
 returns : tie.Need-returns Inv-loop μ-loop
 returns c = flagged-below-end (c .before .loop .inv .0) files (omega arith)

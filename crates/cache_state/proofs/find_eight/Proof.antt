@@ -24,7 +24,7 @@ loop-holds : tie.Need-loop-holds Inv-loop μ-loop
 loop-holds c = (c .before .pre .2, search needs, search needs, search needs, search needs)
 
 find-slot-requires : tie.Need-find-slot-requires Inv-loop μ-loop
-find-slot-requires c κs = (search needs, search needs, c .before .loop .inv .0)
+find-slot-requires c κs = (search needs, search needs, c .before .before .loop .inv .0)
 
 add-i : tie.Need-add-i Inv-loop μ-loop
 add-i c = search needs

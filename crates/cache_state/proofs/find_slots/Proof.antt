@@ -31,10 +31,12 @@ loop-less : tie.Need-loop-less Inv-loop μ-loop
 loop-less c = omega arith
 
 loop-again : tie.Need-loop-again Inv-loop μ-loop
-loop-again c = (?, omega arith, omega arith, search needs)
+loop-again c =
+    let l = c .before .before .before in
+    (passed-eight (l .before .before .args .state .now) _ (l .loop .k) (l .loop .inv .0) (omega arith) (sym (c .before .eight-free .ensures) ∙ c .if1 .taken), omega arith, omega arith, search needs)
 
 find-eight-requires : tie.Need-find-eight-requires Inv-loop μ-loop
-find-eight-requires c κs = (search needs, omega arith, ?)
+find-eight-requires c κs = (search needs, omega arith, c .before .before .before .before .loop .inv .0)
 
 add-k-2 : tie.Need-add-k-2 Inv-loop μ-loop
 add-k-2 c = omega arith
@@ -43,13 +45,17 @@ loop-less-2 : tie.Need-loop-less-2 Inv-loop μ-loop
 loop-less-2 c = omega arith
 
 loop-again-2 : tie.Need-loop-again-2 Inv-loop μ-loop
-loop-again-2 c = (?, omega arith, omega arith, search needs)
+loop-again-2 c = (c .before .find-eight .ensures .0 (c .if2 .taken), omega arith, omega arith, search needs)
 
 returns : tie.Need-returns Inv-loop μ-loop
-returns c = ?
+returns c = (sym (c .before .find-eight .ensures .1 (c .if2 .left)), λ q. absurd (false≢true q))
 
 returns-2 : tie.Need-returns-2 Inv-loop μ-loop
-returns-2 c = ?
+returns-2 c =
+    let l = c .before in
+    let e : l .loop .k ≡ slotCount = omega arith in
+    let x : Passed (l .before .before .args .state .now) (l .loop .slots) slotCount = rw e at (l .loop .inv .0) in
+    (sym (passed-all _ _ x), λ q. passed-table _ _ x)
 
 pub find-slots-spec : {M : Type 1} → statement M
 find-slots-spec =

@@ -46,13 +46,15 @@ loop-again c =
     let a = l .before .before .args in
     let k = l .loop .k in
     let state = l .loop .state in
-    let t = ap (isFrom (a .file) (a .n)) (sym (c .before .before .slot-at .ensures)) ∙ sym (c .before .is-from .ensures) in
-    (⊎-elim
-    (λ w.
-    w .6 ∙ w .3 .ensures ∙ ap (slotSet state k) (w .2 .ensures)
-    ∙ freed-here (a .file) (a .n) k (a .state .now) state (l .loop .inv .0) (t ∙ w .0 .taken))
-    (λ w. w .1 ∙ freed-none (a .file) (a .n) k (a .state .now) state (l .loop .inv .0) (t ∙ w .0 .left))
-    (c .if1 .came), search needs)
+    let t = ap (isFrom (a .file) (a .n)) (sym (c .before .before .slot-at .ensures)) ∙ sym (c .before .is-from .ensures) in (
+      ⊎-elim
+          (λ w.
+          w .6 ∙ w .3 .ensures ∙ ap (slotSet state k) (w .2 .ensures)
+          ∙ freed-here (a .file) (a .n) k (a .state .now) state (l .loop .inv .0) (t ∙ w .0 .taken))
+          (λ w. w .1 ∙ freed-none (a .file) (a .n) k (a .state .now) state (l .loop .inv .0) (t ∙ w .0 .left))
+          (c .if1 .came),
+      search needs,
+    )
 
 same-length : tie.Need-same-length Inv-loop μ-loop
 same-length c =

@@ -1,56 +1,88 @@
+-- `cache_state::is_sound` meets its contract: the sizes, then the slots, then the up mark.
+use mathlib.Core.Path.{_≡_, refl, sym, _∙_}
+use mathlib.Core.Bool.{true, false, false≢true}
+use Prim.Native.Nat.{ℕ, _<_}
+use native.Mathlib.Omega.{arith}
+use lib.ListN.{length, getD}
+use Rattle.cache_state.proofs.Soundness.{other-length, not-ordered, not-passed, mark-read, encoded-is, sound-up, sound-down, no-mark}
+use Rattle.state_bytes.specs.Encoding.{stateBytes, decode}
+use Rattle.state_bytes.specs.InPlace.{IsEncoded}
+use Rattle.state_bytes.proofs.InPlace.{slots-read}
+use Rattle.media.specs.Geometry.{files, fileBytes, pagesPerFile}
+use Rattle.scan.specs.Scan.{everyBelow}
+use Rattle.device.specs.Sizes.{inOrder}
+use Rattle.device.specs.Sound.{sizesIn}
+use Rattle.cache_state.specs.Tables.{slotTable, slotsPass}
 use borrow.Author.Needs.{needs}
 use Rattle.cache_state.proofs.is_sound.Statement.{statement}
 use Rattle.cache_state.proofs.is_sound.Tie as tie
-use Rattle.cache_state.proofs.is_sound.Reads as reads
-use Rattle.cache_state.proofs.is_sound.Lts as lts
-use Rattle.cache_state.proofs.files_in_order.Reads as files-in-order-reads
-use Rattle.cache_state.proofs.find_slots.Reads as find-slots-reads
-use Rattle.cache_state.proofs.is_down.Reads as is-down-reads
-use Rattle.state_bytes.proofs.decode.Reads as decode-reads
 
--- src/lib.rt:350:9
+-- the slots pass
+passes : (c : tie.Then3) → slotsPass (c .before .before .before .before .before .before .before .before .args .state .now) ≡ true
+passes c = sym (c .before .find-slots .ensures .0) ∙ c .if3 .taken
+
+-- the sizes are in order
+orders : (c : tie.Then3) → let a = c .before .before .before .before .before .before .before .before .args in
+    everyBelow files (λ f. inOrder (fileBytes pagesPerFile) (sizesIn (a .sizes .now) (decode (a .state .now)) f)) ≡ true
+orders c = let u = c .before .before .before in sym (u .before .files-in-order .ensures) ∙ u .if2 .taken
+
+-- what holds of sound bytes
+leaves : (c : tie.Then3) → ((i : ℕ) → getD (c .before .before .before .before .before .before .before .before .args .state .now) i 0 < 256)
+    → let bytes = c .before .before .before .before .before .before .before .before .args .state .now in
+    (c .before .find-slots .last .1 .0 ≡ slotTable pagesPerFile (decode bytes .slots)) × IsEncoded bytes × (length bytes ≡ stateBytes) × (getD bytes 0 0 ≡ decode bytes .mounted)
+leaves c small =
+    let bytes = c .before .before .before .before .before .before .before .before .args .state .now in
+    let stored = c .before .before .before .before .before .before .before .before .args .sizes .now in
+    let e : length bytes ≡ stateBytes = omega arith in
+    (rw (slots-read bytes e) (c .before .find-slots .ensures .1 (c .if3 .taken)), encoded-is stored bytes e (passes c) small, e, mark-read stored bytes e (passes c))
+
 returns : tie.Need-returns
-returns c = ?
+returns c = (other-length (c .before .before .before .args .sizes .now) (c .before .before .before .args .state .now) (λ e. omega arith), λ q. absurd (false≢true q))
 
--- src/lib.rt:352:8
 files-in-order-requires : tie.Need-files-in-order-requires
 files-in-order-requires c κs = search needs
 
--- src/lib.rt:353:12
 find-slots-requires : tie.Need-find-slots-requires
 find-slots-requires c κs = search needs
 
--- src/lib.rt:354:27
 shared-slice-read-mounted : tie.Need-shared-slice-read-mounted
 shared-slice-read-mounted c = search needs
 
--- src/lib.rt:356:17
 returns-2 : tie.Need-returns-2
-returns-2 c = ?
+returns-2 c =
+    let p = c .before .before in
+    let a = p .before .before .before .before .before .before .before .before .args in
+    (sound-up (a .sizes .now) (a .state .now) (omega arith) (passes p) (orders p) (c .if4 .taken), λ q. leaves p (λ i. omega (arith, c .before .shared-slice-known3 .given i)))
 
--- src/lib.rt:359:32
 decode-requires : tie.Need-decode-requires
 decode-requires c κs = search needs
 
--- src/lib.rt:359:17
 is-down-requires : tie.Need-is-down-requires
 is-down-requires c κs = search needs
 
--- src/lib.rt:359:17
 returns-3 : tie.Need-returns-3
-returns-3 c = ?
+returns-3 c =
+    let p = c .before .before .before .before .before in
+    let a = p .before .before .before .before .before .before .before .before .args in (
+      (rw (c .before .decode .ensures) at (c .is-down .ensures)) ∙ sound-down (a .sizes .now) (a .state .now) (omega arith) (passes p) (orders p) (c .before .before .if5 .taken),
+      λ q. leaves p (λ i. omega (arith, c .before .before .before .before .shared-slice-known3 .given i)),
+    )
 
--- src/lib.rt:361:13
 returns-4 : tie.Need-returns-4
-returns-4 c = ?
+returns-4 c =
+    let p = c .before .before .before in
+    let a = p .before .before .before .before .before .before .before .before .args in
+    (no-mark (a .sizes .now) (a .state .now) (omega arith) (passes p) (c .before .if4 .left) (c .if5 .left), λ q. absurd (false≢true q))
 
--- src/lib.rt:363:9
 returns-5 : tie.Need-returns-5
-returns-5 c = ?
+returns-5 c =
+    let a = c .before .before .before .before .before .before .before .before .args in
+    (not-passed (a .sizes .now) (a .state .now) (omega arith) (sym (c .before .find-slots .ensures .0) ∙ c .if3 .left), λ q. absurd (false≢true q))
 
--- src/lib.rt:343:1
 returns-6 : tie.Need-returns-6
-returns-6 c = ?
+returns-6 c =
+    let a = c .before .before .before .before .before .args in
+    (not-ordered (a .sizes .now) (a .state .now) (sym (c .before .files-in-order .ensures) ∙ c .if2 .left), λ q. absurd (false≢true q))
 
 pub is-sound-spec : {M : Type 1} → statement M
 is-sound-spec =
