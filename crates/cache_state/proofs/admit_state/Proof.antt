@@ -22,7 +22,7 @@ is-sound-requires : tie.Need-is-sound-requires
 is-sound-requires c κs = search needs
 
 shared-slice-read-admit-mounted : tie.Need-shared-slice-read-admit-mounted
-shared-slice-read-admit-mounted c = omega (arith, (c .before .before .is-sound .ensures .1 (c .before .if1 .taken)) .2 .0)
+shared-slice-read-admit-mounted c = omega (arith, (c .before .before .is-sound .ensures .1 (c .before .if1 .taken)) .2)
 
 admit-mounted-requires : tie.Need-admit-mounted-requires
 admit-mounted-requires c κs = search needs
@@ -38,11 +38,11 @@ returns c =
     let m = c .before .before .before .before in
     let i = c .before .before .before .before .before .before .before in
     let a = c .before .before .before .before .before .before .before .before .before .before .before .before .args in
-    let r = c .before .before .answer .given .0 in (
+    let r = c .before .before .answer .given .0 .0 in (
       rest-sound (a .sizes .now) (a .state .now) (a .file) (a .range) _ _ (sym (i .is-sound .ensures .0) ∙ c .before .before .before .before .before .before .if1 .taken)
-          (i .is-sound .ensures .1 (c .before .before .before .before .before .before .if1 .taken) .2 .1) (coded-of _ _ _ (c .before .before .answer .given .1) (m .admit-mounted .ensures)),
-      c .none-cached2 .ensures ∙ table-refused _ _,
-      λ q. absurd (refused-not-done _ (decode (a .state .now) .slots) q),
+          (i .is-sound .ensures .1 (c .before .before .before .before .before .before .if1 .taken) .3) (coded-of _ _ _ (c .before .before .answer .given .1) (m .admit-mounted .ensures)),
+      c .none-cached2 .ensures ∙ table-refused r (decode (a .state .now) .slots),
+      λ q. absurd (refused-not-done r (decode (a .state .now) .slots) q),
     )
 
 enum-told : tie.Need-enum-told
@@ -58,7 +58,7 @@ returns-2 c =
     let a = c .before .before .before .before .before .before .before .before .before .before .args in
     let h = i .is-sound .ensures .1 (c .before .before .before .before .if1 .taken) in (
       rest-sound (a .sizes .now) (a .state .now) (a .file) (a .range) _ _ (sym (i .is-sound .ensures .0) ∙ c .before .before .before .before .if1 .taken)
-          (h .2 .1) (sym (first-all (tests c) (done 0) (answer-passed (tests c) _ _ refl (m .admit-mounted .ensures) (c .enum-told .given .1)))),
+          (h .3) (sym (first-all (tests c) (done 0) (answer-passed (tests c) _ _ refl (m .admit-mounted .ensures) (c .enum-told .given .1)))),
       h .0 ∙ table-done 0 _,
       λ q. h .1,
     )
@@ -71,7 +71,7 @@ returns-3 c =
     let i = c .before .before in
     let a = c .before .before .before .before .before .before .before .args in (
       rest-unsound (a .sizes .now) (a .state .now) (a .file) (a .range) (sym (i .is-sound .ensures .0) ∙ c .before .if1 .left),
-      c .none-cached3 .ensures ∙ table-refused Books _,
+      c .none-cached3 .ensures ∙ table-refused Books (decode (a .state .now) .slots),
       λ q. absurd (refused-not-done Books (decode (a .state .now) .slots) q),
     )
 
