@@ -6,7 +6,7 @@ use Prim.Native.Nat.{ℕ, zero, suc, _+_, _*_, _≤_, _<_}
 use native.Mathlib.Numerals.{add-one}
 use native.Mathlib.Omega.{arith}
 use lib.Dec.{eqb, ltb}
-use lib.ListN.{length, getD, set, take, drop}
+use lib.ListN.{length, getD, set, take, drop, length-map}
 use lib.Seq.{set-getD}
 use borrow.Table.Steps.{cases}
 use Rattle.memory.proofs.Bytes.{length-overwrite}
@@ -18,9 +18,10 @@ use Rattle.device.specs.Truncating.{pagesFrom}
 use Rattle.device.specs.Syncing.{pagesOf}
 use Rattle.device.proofs.Syncing.{free-all}
 use Rattle.state_bytes.specs.Encoding.{stateBytes, slotsAt, slotBytes, encode, decode, slotSet}
+use Rattle.state_bytes.specs.InPlace.{IsEncoded}
 use Rattle.state_bytes.specs.Inverse.{Shaped}
 use Rattle.state_bytes.proofs.Inverse.{inverse}
-use Rattle.state_bytes.proofs.InPlace.{slot-set}
+use Rattle.state_bytes.proofs.InPlace.{shaped, decode-is, slot-set}
 use Rattle.cache_state.specs.Freeing.{isFrom, freedSlots}
 
 -- ---- one slot more
@@ -105,3 +106,13 @@ module _ (f n : ℕ) (s : CacheState) (h : Shaped s) where
 -- all pages of a file are freed
 pub freed-all-encoded : (f : ℕ) (s : CacheState) → Shaped s → freedSlots f 0 slotCount (encode s) ≡ encode (withSlots s (map (freeWhere (pagesOf f)) (s .slots)))
 freed-all-encoded f s h = freed-encoded f 0 s h ∙ ap (λ (l : List Slot). encode (withSlots s l)) (free-all f (s .slots))
+
+-- in bytes that are encoded
+module _ (f n : ℕ) (bytes : List ℕ) (e : IsEncoded bytes) where
+  pub freed-changed : (after : List ℕ) → after ≡ freedSlots f n slotCount bytes
+      → (decode after ≡ withSlots (decode bytes) (map (freeWhere (pagesFrom f n)) (decode bytes .slots))) × IsEncoded after
+  freed-changed after q =
+      let h : Shaped (decode bytes) = shaped bytes in
+      decode-is bytes e after (withSlots (decode bytes) (map (freeWhere (pagesFrom f n)) (decode bytes .slots)))
+      (record { slots = length-map (decode bytes .slots) (freeWhere (pagesFrom f n)) ∙ h .slots; logical = h .logical; floor = h .floor })
+      (q ∙ ap (λ (b : List ℕ). freedSlots f n slotCount b) (sym e) ∙ freed-encoded f n (decode bytes) h)

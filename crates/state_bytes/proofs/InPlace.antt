@@ -6,7 +6,7 @@ use mathlib.Core.List.{List, [], _∷_, _++_}
 use Prim.Native.Nat.{ℕ, zero, suc, _+_, _*_, _≤_, _<_}
 use native.Mathlib.Nat.{not-suc-le-zero, le-of-suc-le-suc, mul-suc, mul-zero, zero-add}
 use native.Mathlib.Omega.{arith}
-use lib.ListN.{length, getD, set, replicate, length-replicate, List·getD-eq-default}
+use lib.ListN.{length, getD, set, replicate, length-set, length-replicate, List·getD-eq-default}
 use lib.Seq.{set-out}
 use borrow.Author.Tests.{eq-eqb, ne-eqb, lt-ltb, le-ltb}
 use Rattle.memory.specs.Bytes.{zeros, overwrite}
@@ -19,6 +19,7 @@ use Rattle.device.specs.declared.CacheState.{CacheState}
 use Rattle.device.specs.Device.{slotCount, freeSlot, withSlots, withLogical, withFloor}
 use Rattle.device.specs.Sound.{isSound}
 use Rattle.state_bytes.specs.Encoding.{stateBytes, slotsAt, logicalAt, floorAt, slotBytes, numberBytes, joined, slotIn, numberIn, slotsIn, sizesIn, isState, noState, encode, decode, slotSet, sizeSet}
+use Rattle.state_bytes.specs.InPlace.{IsEncoded}
 use Rattle.state_bytes.specs.Inverse.{Shaped}
 use Rattle.state_bytes.proofs.Encoding.{length-joined, length-each, getD-each}
 use Rattle.state_bytes.proofs.Inverse.{inverse, length-encode}
@@ -182,3 +183,37 @@ module _ (s : CacheState) (h : Shaped s) where
 pub sound-length : (P : ℕ) (stored bytes : List ℕ) → isSound P stored (decode bytes) ≡ true → length bytes ≡ stateBytes
 sound-length P stored bytes e =
     split-eq (length bytes) stateBytes (λ q. q) (λ n. absurd (true-not-false (isSound P stored (decode bytes)) e (inverse .other-length P stored bytes n)))
+
+-- ---- changes of encoded bytes
+
+pub encode-encoded : (s : CacheState) → Shaped s → IsEncoded (encode s)
+encode-encoded s h = rw (inverse .there-and-back s h)
+
+module _ (bytes : List ℕ) (e : IsEncoded bytes) where
+  -- bytes that are those of a state of the right lengths
+  pub decode-is : (after : List ℕ) (s : CacheState) → Shaped s → after ≡ encode s → (decode after ≡ s) × IsEncoded after
+  decode-is after s h q = (rw q (inverse .there-and-back s h), rw q (encode-encoded s h))
+
+  pub slot-changed : (k : ℕ) (x : Slot) (after : List ℕ) → after ≡ slotSet bytes k x
+      → (decode after ≡ withSlots (decode bytes) (set (decode bytes .slots) k x)) × IsEncoded after
+  slot-changed k x after q =
+      let h : Shaped (decode bytes) = shaped bytes in
+      decode-is after (withSlots (decode bytes) (set (decode bytes .slots) k x))
+      (record { slots = length-set (decode bytes .slots) k x ∙ h .slots; logical = h .logical; floor = h .floor })
+      (q ∙ ap (λ (b : List ℕ). slotSet b k x) (sym e) ∙ slot-set (decode bytes) h k x)
+
+  pub logical-changed : (f n : ℕ) (after : List ℕ) → after ≡ sizeSet logicalAt bytes f n
+      → (decode after ≡ withLogical (decode bytes) f n) × IsEncoded after
+  logical-changed f n after q =
+      let h : Shaped (decode bytes) = shaped bytes in
+      decode-is after (withLogical (decode bytes) f n)
+      (record { slots = h .slots; logical = length-set (decode bytes .logical) f n ∙ h .logical; floor = h .floor })
+      (q ∙ ap (λ (b : List ℕ). sizeSet logicalAt b f n) (sym e) ∙ logical-set (decode bytes) h f n)
+
+  pub floor-changed : (f n : ℕ) (after : List ℕ) → after ≡ sizeSet floorAt bytes f n
+      → (decode after ≡ withFloor (decode bytes) f n) × IsEncoded after
+  floor-changed f n after q =
+      let h : Shaped (decode bytes) = shaped bytes in
+      decode-is after (withFloor (decode bytes) f n)
+      (record { slots = h .slots; logical = h .logical; floor = length-set (decode bytes .floor) f n ∙ h .floor })
+      (q ∙ ap (λ (b : List ℕ). sizeSet floorAt b f n) (sym e) ∙ floor-set (decode bytes) h f n)
