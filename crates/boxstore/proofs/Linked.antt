@@ -1,56 +1,41 @@
 -- A linked caller's calls are the calls on the device.
-use mathlib.Core.Path.{_≡_, refl, sym, ap, _∙_}
+use mathlib.Core.Path.{_≡_, ap, _∙_}
 use mathlib.Core.Logic.{_≢_}
-use mathlib.Core.Bool.{Bool, true, false, cond, _||_, false≢true}
-use mathlib.Core.List.{List, [], _∷_, map}
-use Prim.Native.Nat.{ℕ, zero, suc, _+_, _*_, _/_, _%_, _-_, _≤_, _<_}
+use mathlib.Core.Bool.{Bool, true, false, cond, _||_}
+use mathlib.Core.List.{List}
+use Prim.Native.Nat.{ℕ, _+_, _*_, _≤_, _<_}
 use native.Mathlib.Omega.{arith}
 use lib.Dec.{eqb}
-use lib.ListN.{length, set, take, drop, length-set, length-map, length-replicate}
+use lib.ListN.{length}
 use borrow.Author.Tests.{eq-eqb, ne-eqb}
 use borrow.Table.Steps.{cases}
 use Rattle.answer.specs.Coded.{Coded}
-use Rattle.media.specs.Geometry.{files, pageBytes, fileBytes}
+use Rattle.media.specs.Geometry.{files, fileBytes}
 use Rattle.media.specs.Write.{Media}
-use Rattle.device.specs.declared.Slot.{Slot}
 use Rattle.device.specs.declared.CacheState.{CacheState}
 use Rattle.device.specs.declared.Span.{Span}
-use Rattle.device.specs.Device.{Device, deviceOf, slotCount, noSlots, freeSlot, isCached, downState, mountedState, withSlots, freeWhere}
+use Rattle.device.specs.Device.{Device, deviceOf}
 use Rattle.device.specs.Admission.{Result, give}
 use Rattle.device.specs.Reading.{read}
 use Rattle.device.specs.Looking.{lookCount, lookSpan}
-use Rattle.device.specs.Writing.{Written, hasSlot, cachePage, patchPage, putPage, putPages, grown, write}
-use Rattle.device.specs.Truncating.{pagesFrom, clearTail, withSizes, truncated, truncate}
-use Rattle.device.specs.Syncing.{pagesOf, syncedState, sync}
+use Rattle.device.specs.Writing.{write}
+use Rattle.device.specs.Truncating.{truncate}
+use Rattle.device.specs.Syncing.{sync}
 use Rattle.device.specs.Mounting.{mount, format}
-use Rattle.device.proofs.Writing.{write-by}
-use Rattle.device.proofs.Truncating.{truncate-by}
-use Rattle.device.proofs.Syncing.{sync-by}
-use Rattle.device.proofs.Mounting.{mount-by, format-by}
-use Rattle.state_bytes.specs.Encoding.{stateBytes, encode, decode}
+use Rattle.state_bytes.specs.Encoding.{stateBytes, encode}
 use Rattle.state_bytes.specs.Inverse.{Shaped}
+use Rattle.state_bytes.specs.InPlace.{Lent, lent, deviceIn, leavesState, stateAfter}
 use Rattle.state_bytes.proofs.Inverse.{length-encode, inverse}
-use Rattle.boxstore.specs.Interface.{wordOf, Lent, lent, deviceIn, leavesState, stateShape, stateAfter, onBytes, readBytes, lookCountBytes, spanWord, lookWord}
+use Rattle.state_bytes.proofs.OnState.{Kept, Kind, same-on, write-kept, truncate-kept, sync-kept, mount-kept, format-kept, write-shaped, truncate-shaped, sync-shaped, mount-shaped, format-shaped}
+use Rattle.boxstore.specs.Interface.{wordOf, stateShape, onBytes, readBytes, lookCountBytes, spanWord, lookWord}
 use Rattle.boxstore.proofs.Counts.{write-small, truncate-small, sync-small, mount-small, format-small}
 use Rattle.boxstore.specs.Linked.{OnBytes, Linked}
-
--- a result that is not done and not cut leaves the device as it came
-abbrev Kept : Device → Result Device → Type 0
-Kept d r = eqb (r .answer .number) 0 || eqb (r .answer .number) 9 ≡ false → r .left ≡ d
-
--- the state that a result leaves has the lengths of the arrays
-abbrev Kind : Device → Result Device → Type 0
-Kind d r = Shaped (d .cache) → Shaped (r .left .cache)
 
 module _ (call : Device → Result Device) (kept : (d : Device) → Kept d (call d)) where
   same : (m : Media) (frames : List ℕ) (s : CacheState) → Shaped s → let r : Result Device = call (deviceOf m frames s) in
       onBytes call (lent m frames (encode s)) ≡ give (r .answer) (lent (r .left .media) (r .left .frames) (encode (r .left .cache)))
-  unfolding onBytes stateShape stateAfter
-  same m frames s h =
-      rw (eq-eqb (length (encode s)) stateBytes (length-encode s h), inverse .there-and-back s h)
-      (cases (eqb (call (deviceOf m frames s) .answer .number) 0 || eqb (call (deviceOf m frames s) .answer .number) 9)
-      (λ e. rw e)
-      (λ e. rw (e, kept (deviceOf m frames s) e)))
+  unfolding onBytes stateShape
+  same m frames s h = rw (eq-eqb (length (encode s)) stateBytes (length-encode s h)) (same-on call kept m frames s h)
 
   refused : (l : Lent) → onBytes call l .answer .number ≢ 0 → onBytes call l .answer .number ≢ 9 → onBytes call l .left ≡ l
   unfolding onBytes stateShape stateAfter
@@ -78,84 +63,6 @@ module _ (call : Device → Result Device) (kept : (d : Device) → Kept d (call
 on-bytes : (call : Device → Result Device) → ((d : Device) → Kept d (call d)) → ((d : Device) → Kind d (call d))
     → (n : ℕ) → ((d : Device) → call d .answer .count ≤ n) → n < 65536 → OnBytes call
 on-bytes call kept kind n most h = record { same = same call kept; any = any call kept; shaped = kind; refused = refused call kept; small = small call kept n most h }
-
--- ---- what is done or cut is no refusal that changes nothing
-
-absurd-kept : {A : Type 0} → true ≡ false → A
-absurd-kept e = absurd (false≢true (sym e))
-
-module _ (P : ℕ) (d : Device) where
-  write-kept : (f position : ℕ) (bytes : List ℕ) → Kept d (write P f position bytes d)
-  write-kept f position bytes = write-by P f position bytes d (Kept d) (λ k lo hi e. refl) (λ ad room. λ e. absurd-kept e)
-
-  truncate-kept : (f n : ℕ) → Kept d (truncate P f n d)
-  truncate-kept f n = truncate-by P f n d (Kept d) (λ k lo hi e. refl) (λ ad. λ e. absurd-kept e)
-
-  sync-kept : (f budget : ℕ) → Kept d (sync P f budget d)
-  sync-kept f budget = sync-by P f budget d (Kept d) (λ k lo hi e. refl) (λ ad l. λ e. absurd-kept e) (λ ad l. λ e. absurd-kept e)
-
-  mount-kept : (budget : ℕ) → Kept d (mount P budget d)
-  mount-kept budget = mount-by P budget d (Kept d) (λ k lo hi e. refl) (λ l x. λ e. absurd-kept e) (λ l x y. λ e. absurd-kept e)
-
-  format-kept : (budget : ℕ) → Kept d (format P budget d)
-  format-kept budget = format-by P budget d (Kept d) (λ k lo hi e. refl) (λ l. λ e. absurd-kept e) (λ l x y. λ e. absurd-kept e)
-
--- ---- the lengths of the arrays
-
-down-shaped : Shaped downState
-down-shaped = record { slots = length-replicate slotCount freeSlot; logical = length-replicate {A = ℕ} files 0; floor = length-replicate {A = ℕ} files 0 }
-
-page-shaped : (P f p offset : ℕ) (bytes : List ℕ) (d : Device) → Shaped (d .cache) → Shaped (putPage P f p offset bytes d .cache)
-unfolding putPage patchPage cachePage
-page-shaped P f p offset bytes d h =
-    cases (isCached d f p)
-    (λ e. rw e h)
-    (λ e. rw e (record { slots = length-set (d .cache .slots) _ _ ∙ h .slots; logical = h .logical; floor = h .floor }))
-
-pages-shaped : (P f n position : ℕ) (bytes : List ℕ) (d : Device) → Shaped (d .cache) → Shaped (putPages P f n position bytes d .device .cache)
-pages-shaped P f zero position bytes d h = h
-pages-shaped P f (suc n) position [] d h = h
-pages-shaped P f (suc n) position (b ∷ bs) d h =
-    cases (hasSlot d f (position / pageBytes))
-    (λ e. rw e (pages-shaped P f n _ _ _ (page-shaped P f (position / pageBytes) (position % pageBytes) (take (pageBytes - position % pageBytes) (b ∷ bs)) d h)))
-    (λ e. rw e h)
-
-grown-shaped : (f position : ℕ) (w : Written) → Shaped (w .device .cache) → Shaped (grown f position w .cache)
-unfolding grown
-grown-shaped f position w h =
-    cases (eqb (w .count) 0)
-    (λ e. rw e h)
-    (λ e. rw e (record { slots = h .slots; logical = length-set (w .device .cache .logical) f _ ∙ h .logical; floor = h .floor }))
-
-truncated-shaped : (f n : ℕ) (d : Device) → Shaped (d .cache) → Shaped (truncated f n d .cache)
-unfolding truncated clearTail withSizes
-truncated-shaped f n d h = record {
-  slots = length-map (d .cache .slots) (freeWhere (pagesFrom f n)) ∙ h .slots;
-  logical = length-set (d .cache .logical) f _ ∙ h .logical;
-  floor = length-set (d .cache .floor) f _ ∙ h .floor;
-}
-
-synced-shaped : (f : ℕ) (s : CacheState) → Shaped s → Shaped (syncedState s f)
-unfolding syncedState
-synced-shaped f s h = record { slots = length-map (s .slots) (freeWhere (pagesOf f)) ∙ h .slots; logical = h .logical; floor = length-set (s .floor) f _ ∙ h .floor }
-
-module _ (P : ℕ) (d : Device) where
-  write-shaped : (f position : ℕ) (bytes : List ℕ) → Kind d (write P f position bytes d)
-  write-shaped f position bytes =
-      write-by P f position bytes d (Kind d) (λ k lo hi h. h)
-      (λ ad room h. grown-shaped f position (putPages P f P position bytes d) (pages-shaped P f P position bytes d h))
-
-  truncate-shaped : (f n : ℕ) → Kind d (truncate P f n d)
-  truncate-shaped f n = truncate-by P f n d (Kind d) (λ k lo hi h. h) (λ ad h. truncated-shaped f n d h)
-
-  sync-shaped : (f budget : ℕ) → Kind d (sync P f budget d)
-  sync-shaped f budget = sync-by P f budget d (Kind d) (λ k lo hi h. h) (λ ad l h. down-shaped) (λ ad l h. synced-shaped f (d .cache) h)
-
-  mount-shaped : (budget : ℕ) → Kind d (mount P budget d)
-  mount-shaped budget = mount-by P budget d (Kind d) (λ k lo hi h. h) (λ l x h. down-shaped) (λ l x y h. let e = x .mountable .sizes in record { slots = length-replicate slotCount freeSlot; logical = e; floor = e })
-
-  format-shaped : (budget : ℕ) → Kind d (format P budget d)
-  format-shaped budget = format-by P budget d (Kind d) (λ k lo hi h. h) (λ l h. down-shaped) (λ l x y h. down-shaped)
 
 -- ---- reads and looks
 

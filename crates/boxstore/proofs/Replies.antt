@@ -18,7 +18,8 @@ use Rattle.device.specs.Admission.{Result, give}
 use Rattle.device.specs.Reading.{read}
 use Rattle.device.specs.Looking.{lookCount, lookSpan}
 use Rattle.state_bytes.specs.Encoding.{stateBytes, encoded}
-use Rattle.boxstore.specs.Interface.{wordOf, reply, inWord, Lent, lent, deviceIn, stateShape, stateAfter, onBytes, readBytes, lookCountBytes, spanWord, lookWord, downBytes, sizesRecord, truncateSizes}
+use Rattle.state_bytes.specs.InPlace.{Lent, lent, deviceIn, stateAfter}
+use Rattle.boxstore.specs.Interface.{wordOf, reply, inWord, stateShape, onBytes, readBytes, lookCountBytes, spanWord, lookWord, downBytes, sizesRecord, truncateSizes}
 
 -- a state of another length
 module _ (l : Lent) (h : length (l .state) ≢ stateBytes) where

@@ -1,21 +1,20 @@
 -- The calls as a caller makes them that links the library: on numbers and slices, with the cache state as bytes, answered by a word.
 use Prim.Native.Nat.{ℕ, _+_, _*_}
-use mathlib.Core.Bool.{Bool, cond, _||_}
+use mathlib.Core.Bool.{cond}
 use mathlib.Core.List.{List, [], _∷_}
 use lib.Dec.{eqb}
 use lib.ListN.{length, getD}
 use Rattle.answer.specs.Coded.{Coded, done, SHAPE}
 use Rattle.answer.specs.Admission.{Test, test, firstRefusal}
-use Rattle.media.specs.Write.{Media}
-use Rattle.device.specs.declared.CacheState.{CacheState}
 use Rattle.device.specs.declared.FileSizes.{FileSizes}
 use Rattle.device.specs.declared.Span.{Span}
-use Rattle.device.specs.Device.{Device, deviceOf, downState}
+use Rattle.device.specs.Device.{Device, downState}
 use Rattle.device.specs.Admission.{Result, give, admit}
 use Rattle.device.specs.Sizes.{sizesAnswer, sizesAfter}
 use Rattle.device.specs.Reading.{read}
 use Rattle.device.specs.Looking.{lookCount, lookSpan}
-use Rattle.state_bytes.specs.Encoding.{stateBytes, encode, decode}
+use Rattle.state_bytes.specs.Encoding.{stateBytes, encode}
+use Rattle.state_bytes.specs.InPlace.{Lent, deviceIn, onState}
 
 -- ---- answers
 
@@ -36,38 +35,15 @@ inWord r = reply (wordOf (r .answer)) (r .left)
 
 -- ---- the state as bytes
 
--- the device as it is lent
-pub record Lent : Type 0 where
-  pub media : Media
-  pub frames : List ℕ
-  pub state : List ℕ
-
-abbrev pub lent : Media → List ℕ → List ℕ → Lent
-lent media frames state = record { media = media; frames = frames; state = state }
-
-abbrev pub deviceIn : Lent → Device
-deviceIn l = deviceOf (l .media) (l .frames) (decode (l .state))
-
 -- SHAPE, before all others
 unfoldable pub stateShape : List ℕ → List Test
 stateShape state = test (eqb (length state) stateBytes) SHAPE ∷ []
-
--- done or cut: the answers of calls that leave a state of their own
-abbrev pub leavesState : Coded → Bool
-leavesState a = eqb (a .number) 0 || eqb (a .number) 9
-
--- the bytes after a call: the state that it leaves, or as they came
-unfoldable pub stateAfter : Coded → CacheState → List ℕ → List ℕ
-stateAfter a s before = cond (leavesState a) (encode s) before
 
 -- ---- the calls
 
 -- write, truncate, sync, mount and format
 unfoldable pub onBytes : (Device → Result Device) → Lent → Result Lent
-onBytes call l =
-    let r : Result Device = call (deviceIn l) in
-    admit (stateShape (l .state)) l
-    (give (r .answer) (lent (r .left .media) (r .left .frames) (stateAfter (r .answer) (r .left .cache) (l .state))))
+onBytes call l = admit (stateShape (l .state)) l (onState call l)
 
 unfoldable pub readBytes : ℕ → ℕ → ℕ → List ℕ → Lent → Result (List ℕ)
 readBytes P f position buffer l = admit (stateShape (l .state)) buffer (read P f position buffer (deviceIn l))

@@ -20,7 +20,8 @@ ghost use Rattle.device.specs.Truncating.{truncate};
 ghost use Rattle.device.specs.Syncing.{sync};
 ghost use Rattle.device.specs.Mounting.{mount, format};
 ghost use Rattle.state_bytes.specs.Encoding.{stateBytes};
-ghost use Rattle.boxstore.specs.Interface.{wordOf, reply, inWord, lent, leavesState, stateAfter, onBytes, readBytes, lookCountBytes, spanWord, lookWord, downBytes, truncateSizes};
+ghost use Rattle.state_bytes.specs.InPlace.{lent, leavesState, stateAfter};
+ghost use Rattle.boxstore.specs.Interface.{wordOf, reply, inWord, onBytes, readBytes, lookCountBytes, spanWord, lookWord, downBytes, truncateSizes};
 
 // SHAPE as a word.
 const SHAPE: u32 = 131072;

@@ -7,7 +7,7 @@ use Rattle.answer.specs.Coded.{coded}
 use Rattle.media.specs.Geometry.{pagesPerFile}
 use Rattle.media.specs.Write.{mediaOf}
 use Rattle.device.specs.Device.{deviceOf}
-use Rattle.boxstore.specs.Interface.{Lent, lent, deviceIn}
+use Rattle.state_bytes.specs.InPlace.{Lent, lent, deviceIn}
 use Rattle.device.specs.Looking.{lookCount}
 use Rattle.boxstore.proofs.Counts.{look-small}
 use Rattle.boxstore.proofs.Replies.{look-count-shape, look-count-call}

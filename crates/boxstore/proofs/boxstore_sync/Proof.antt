@@ -10,7 +10,7 @@ use Rattle.media.specs.Write.{mediaOf}
 use Rattle.device.specs.Device.{deviceOf}
 use Rattle.device.specs.Admission.{give}
 use Rattle.state_bytes.specs.Encoding.{stateBytes}
-use Rattle.boxstore.specs.Interface.{Lent, lent, deviceIn}
+use Rattle.state_bytes.specs.InPlace.{Lent, lent, deviceIn}
 use Rattle.device.specs.Syncing.{sync}
 use Rattle.boxstore.proofs.Counts.{counts, sync-small}
 use Rattle.boxstore.proofs.Replies.{on-shape, on-call}
