@@ -1,0 +1,327 @@
+// Write and truncate on the bytes of the cache state, and the truncate rule on the sizes of one file.
+//
+// What is written goes into cached pages, and the bytes of the state are changed in place; the media stays.
+use answer::Answer;
+use answer::Refusal;
+use cache_state::TABLE;
+use device::FileSizes;
+use device::SLOTS;
+use device::Slot;
+use media::PAGE_BYTES;
+use media::PAGES_PER_FILE;
+ghost use mathlib.Core.Path.{_≡_};
+ghost use mathlib.Core.Bool.{cond};
+ghost use mathlib.Core.List.{List, [], map};
+ghost use Prim.Native.Nat.{_+_, _-_, _*_, _≤_, _<_, _^_, ℕ, min, _%_, _/_, max};
+ghost use lib.ListN.{length, getD};
+ghost use lib.Dec.{leb};
+ghost use Rattle.answer.specs.Coded.{coded};
+ghost use Rattle.memory.specs.Bytes.{part, overwrite};
+ghost use Rattle.media.specs.Geometry.{files, fileBytes, mediaBytes, pageBytes, pageStart, pagesPerFile};
+ghost use Rattle.media.specs.Write.{mediaOf};
+ghost use Rattle.scan.specs.Scan.{firstIndex};
+ghost use Rattle.device.specs.declared.CacheState.{CacheState};
+ghost use Rattle.device.specs.Device.{freeWhere, withLogical, withSlots, deviceOf, slotCount, framesBytes, isFree, holds};
+ghost use Rattle.device.specs.Admission.{give};
+ghost use Rattle.device.specs.Sound.{sizesIn};
+ghost use Rattle.device.specs.Sizes.{truncatedSizes, sizesAnswer, sizesAfter};
+ghost use Rattle.device.specs.Writing.{hasSlot, blankPage, cachePage, putPage, putPages, write};
+ghost use Rattle.device.specs.Truncating.{pagesFrom, clearTail, withSizes, truncate};
+ghost use Rattle.state_bytes.specs.Encoding.{decode};
+ghost use Rattle.state_bytes.specs.InPlace.{lent, IsEncoded, onState};
+ghost use Rattle.cache_state.specs.Tables.{slotTable};
+
+// A page as it becomes cached: a blank page, overlaid with the bytes of the media below the floor.
+fn filled_page(media: &[u8], floor: usize, file: usize, page: usize, pages: usize) -> [u8; 256]
+    requires { ⌜ (fileBytes pages < 2 ^ 32) × (length (now media) ≡ mediaBytes pages) × (file < files) × (page < pages) ⌝ }
+    ensures { λ r. ⌜ r ≡ overwrite blankPage 0 (part (now (media .entry)) (pageStart pages file page) (min pageBytes (floor - pageBytes * page))) ⌝ }
+{
+    let at = PAGE_BYTES * page;
+    let from = file * (PAGE_BYTES * pages) + at;
+    let end = from + number::min(PAGE_BYTES, number::saturating_sub(floor, at));
+    let mut blank = [0u8; 256];
+    memory::copy(&mut blank, &media[from..end]);
+    blank
+}
+
+// The bytes are laid over the page frames from `at` on.
+fn patch_frames(frames: &mut [u8], at: usize, bytes: &[u8])
+    requires { ⌜ (length (now frames) ≡ framesBytes) × (at + length (now bytes) ≤ framesBytes) ⌝ }
+    ensures { λ r. ⌜ now (frames .exit) ≡ overwrite (now (frames .entry)) at (now (bytes .entry)) ⌝ }
+{
+    let end = at + bytes.len();
+    memory::copy(&mut frames[at..end], bytes);
+}
+
+// A page becomes cached, in slot k, the first that is free.
+fn cache_page(
+    media: &[u8],
+    frames: &mut [u8],
+    state: &mut [u8],
+    file: usize,
+    page: usize,
+    k: usize,
+    pages: usize,
+)
+    requires { ⌜ (fileBytes pages < 2 ^ 16) × (length (now media) ≡ mediaBytes pages) × (length (now frames) ≡ framesBytes) × (file < files) × (page < pages)
+        × (k < slotCount) × (k ≡ firstIndex isFree ((decode (now state)) .slots)) × IsEncoded (now state) ⌝ }
+    ensures { λ r. ⌜ ((stored : List ℕ) → deviceOf (mediaOf (now (media .entry)) stored) (now (frames .exit)) (decode (now (state .exit)))
+        ≡ cachePage pages file page (deviceOf (mediaOf (now (media .entry)) stored) (now (frames .entry)) (decode (now (state .entry)))))
+        × IsEncoded (now (state .exit)) ⌝ }
+{
+    let floor = state_bytes::floor_at(state, file) as usize;
+    let bytes = filled_page(media, floor, file, page, pages);
+    patch_frames(frames, PAGE_BYTES * k, &bytes);
+    let slot = Slot {
+        used: true,
+        file: file as u8,
+        page: page as u8,
+    };
+    state_bytes::set_slot(state, k, slot);
+}
+
+// One page of a write, whose slot is k: it becomes cached where it is not, and takes its piece; or it has no slot, and all stays as
+// it is.
+fn put_page(
+    media: &[u8],
+    frames: &mut [u8],
+    state: &mut [u8],
+    file: usize,
+    page: usize,
+    offset: usize,
+    bytes: &[u8],
+    k: usize,
+    pages: usize,
+) -> bool
+    requires { ⌜ (fileBytes pages < 2 ^ 16) × (length (now media) ≡ mediaBytes pages) × (length (now frames) ≡ framesBytes) × (file < files) × (page < pages)
+        × (offset + length (now bytes) ≤ pageBytes) × (k ≡ firstIndex (holds file page) ((decode (now state)) .slots)) × IsEncoded (now state) ⌝ }
+    ensures { λ r. ⌜ (r ≡ hasSlot (deviceOf (mediaOf [] []) [] (decode (now (state .entry)))) file page)
+        × ((stored : List ℕ) → deviceOf (mediaOf (now (media .entry)) stored) (now (frames .exit)) (decode (now (state .exit)))
+        ≡ cond r (putPage pages file page offset (now (bytes .entry)) (deviceOf (mediaOf (now (media .entry)) stored) (now (frames .entry)) (decode (now (state .entry)))))
+        (deviceOf (mediaOf (now (media .entry)) stored) (now (frames .entry)) (decode (now (state .entry)))))
+        × IsEncoded (now (state .exit)) ⌝ }
+{
+    if k < SLOTS {
+        patch_frames(frames, PAGE_BYTES * k + offset, bytes);
+        return true;
+    }
+    let j = cache_state::first_free(state);
+    if j < SLOTS {
+        cache_page(media, frames, state, file, page, j, pages);
+        patch_frames(frames, PAGE_BYTES * j + offset, bytes);
+        return true;
+    }
+    false
+}
+
+// The pages of a write, ascending, until one has no slot. Each takes the piece that begins where the page before stopped. The number
+// of bytes put down comes back. The table has the slots at the start: a page that becomes cached takes no other's.
+fn put_pages(
+    media: &[u8],
+    frames: &mut [u8],
+    state: &mut [u8],
+    slots: &[u8; TABLE],
+    file: usize,
+    position: usize,
+    bytes: &[u8],
+) -> usize
+    requires { ⌜ (length (now media) ≡ mediaBytes pagesPerFile) × (length (now frames) ≡ framesBytes) × (file < files)
+        × (position + length (now bytes) ≤ fileBytes pagesPerFile) × (now slots ≡ slotTable pagesPerFile ((decode (now state)) .slots)) × IsEncoded (now state) ⌝ }
+    ensures { λ r. ⌜ ((stored : List ℕ) → record { device = deviceOf (mediaOf (now (media .entry)) stored) (now (frames .exit)) (decode (now (state .exit))); count = r }
+        ≡ putPages pagesPerFile file pagesPerFile position (now (bytes .entry)) (deviceOf (mediaOf (now (media .entry)) stored) (now (frames .entry)) (decode (now (state .entry)))))
+        × IsEncoded (now (state .exit)) ⌝ }
+{
+    let mut from = 0;
+    while from < bytes.len() {
+        let page = (position + from) / PAGE_BYTES;
+        let offset = (position + from) % PAGE_BYTES;
+        let to = from + number::min(PAGE_BYTES - offset, bytes.len() - from);
+        let k = slots[PAGES_PER_FILE * file + page] as usize;
+        let piece = &bytes[from..to];
+        if put_page(media, frames, state, file, page, offset, piece, k, PAGES_PER_FILE) {
+            from = to;
+        } else {
+            return from;
+        }
+    }
+    from
+}
+
+// Whether position + n is at most the limit, the sum taken exactly.
+fn sum_fits(position: usize, n: usize, limit: usize) -> bool
+    ensures { λ r. ⌜ r ≡ leb (position + n) limit ⌝ }
+{
+    if n <= limit {
+        return position <= limit - n;
+    }
+    false
+}
+
+// File `file` is at least n bytes long.
+fn grow(state: &mut [u8], file: usize, n: usize)
+    requires { ⌜ (file < files) × (n < 2 ^ 32) × IsEncoded (now state) ⌝ }
+    ensures { λ r. ⌜ (decode (now (state .exit)) ≡ withLogical (decode (now (state .entry))) file (max (getD ((decode (now (state .entry))) .logical) file 0) n))
+        × IsEncoded (now (state .exit)) ⌝ }
+{
+    let logical = state_bytes::logical_at(state, file);
+    state_bytes::set_logical(state, file, max(logical, n as u32));
+}
+
+fn max(a: u32, b: u32) -> u32
+    ensures { λ r. ⌜ r ≡ max a b ⌝ }
+{
+    if a <= b { b } else { a }
+}
+
+// Write: puts the bytes down page by page, ascending, until a page has no slot, and answers how many: fewer than asked where all
+// slots were taken. NO ROOM where not even the first page has one.
+pub fn write(
+    media: &[u8],
+    sizes: &[u32],
+    frames: &mut [u8],
+    state: &mut [u8],
+    file: usize,
+    position: usize,
+    bytes: &[u8],
+) -> Answer
+    ensures { λ r. ⌜ give (coded r) (lent (mediaOf (now (media .entry)) (now (sizes .entry))) (now (frames .exit)) (now (state .exit)))
+        ≡ onState (write pagesPerFile file position (now (bytes .entry))) (lent (mediaOf (now (media .entry)) (now (sizes .entry))) (now (frames .entry)) (now (state .entry))) ⌝ }
+{
+    let in_range = sum_fits(position, bytes.len(), PAGE_BYTES * PAGES_PER_FILE);
+    let mut slots = [0u8; TABLE];
+    let admission = cache_state::admit(media, sizes, frames, state, file, in_range, &mut slots);
+    match admission {
+        Answer::Refused(refusal) => Answer::Refused(refusal),
+        Answer::Done(_) => {
+            if bytes.len() == 0 {
+                return Answer::Done(0);
+            }
+            let count = put_pages(media, frames, state, &slots, file, position, bytes);
+            if count == 0 {
+                return Answer::Refused(Refusal::NoRoom);
+            }
+            grow(state, file, position + count);
+            Answer::Done(count)
+        }
+    }
+}
+
+// The truncate rule on the sizes of one file: the floor is the smallest so far.
+fn truncated_sizes(s: FileSizes, n: u32) -> FileSizes
+    ensures { λ r. ⌜ r ≡ truncatedSizes n s ⌝ }
+{
+    if s.floor <= n {
+        return FileSizes {
+            logical: n,
+            floor: s.floor,
+            stored: s.stored,
+        };
+    }
+    FileSizes {
+        logical: n,
+        floor: n,
+        stored: s.stored,
+    }
+}
+
+// The state after a truncate of a file to n bytes. It has no part in the stored size.
+fn truncate_state(state: &mut [u8], file: usize, n: usize)
+    requires { ⌜ (file < files) × (n < 2 ^ 32) × IsEncoded (now state) ⌝ }
+    ensures { λ r. ⌜ (decode (now (state .exit)) ≡ withSizes file (truncatedSizes n (sizesIn [] (decode (now (state .entry))) file))
+        (withSlots (decode (now (state .entry))) (map (freeWhere (pagesFrom file n)) ((decode (now (state .entry))) .slots))))
+        × IsEncoded (now (state .exit)) ⌝ }
+{
+    let sizes = FileSizes {
+        logical: state_bytes::logical_at(state, file),
+        floor: state_bytes::floor_at(state, file),
+        stored: 0,
+    };
+    let after = truncated_sizes(sizes, n as u32);
+    cache_state::free_pages_from(state, file, n);
+    state_bytes::set_logical(state, file, after.logical);
+    state_bytes::set_floor(state, file, after.floor);
+}
+
+// The slot of the page that n falls inside, or SLOTS where n begins a page: pages that begin at or past n are freed.
+fn tail_slot(slots: &[u8; TABLE], file: usize, n: usize) -> usize
+    requires { ⌜ (file < files) × (n ≤ fileBytes pagesPerFile) ⌝ }
+    ensures { λ r. ⌜ ((c : CacheState) → length (c .slots) ≡ slotCount → now (slots .entry) ≡ slotTable pagesPerFile (c .slots)
+        → r ≡ firstIndex (holds file (n / pageBytes)) (map (freeWhere (pagesFrom file n)) (c .slots))) ⌝ }
+{
+    if n % PAGE_BYTES == 0 {
+        return SLOTS;
+    }
+    slots[PAGES_PER_FILE * file + n / PAGE_BYTES] as usize
+}
+
+// The page that n falls inside, in slot k where it is cached, gets zeros from n on.
+fn clear_tail(frames: &mut [u8], k: usize, n: usize)
+    requires { ⌜ length (now frames) ≡ framesBytes ⌝ }
+    ensures { λ r. ⌜ ((bytes stored : List ℕ) (c : CacheState) (f : ℕ) → k ≡ firstIndex (holds f (n / pageBytes)) (c .slots)
+        → deviceOf (mediaOf bytes stored) (now (frames .exit)) c ≡ clearTail f n (deviceOf (mediaOf bytes stored) (now (frames .entry)) c)) ⌝ }
+{
+    if k < SLOTS {
+        let from = PAGE_BYTES * k + n % PAGE_BYTES;
+        let end = PAGE_BYTES * k + PAGE_BYTES;
+        memory::clear(&mut frames[from..end]);
+    }
+}
+
+// Truncate: the file has n bytes after it: it is cut, or filled with zeros. The count is 0.
+pub fn truncate(
+    media: &[u8],
+    sizes: &[u32],
+    frames: &mut [u8],
+    state: &mut [u8],
+    file: usize,
+    n: usize,
+) -> Answer
+    ensures { λ r. ⌜ give (coded r) (lent (mediaOf (now (media .entry)) (now (sizes .entry))) (now (frames .exit)) (now (state .exit)))
+        ≡ onState (truncate pagesPerFile file n) (lent (mediaOf (now (media .entry)) (now (sizes .entry))) (now (frames .entry)) (now (state .entry))) ⌝ }
+{
+    let greatest = PAGE_BYTES * PAGES_PER_FILE;
+    let mut slots = [0u8; TABLE];
+    let admission = cache_state::admit(media, sizes, frames, state, file, n <= greatest, &mut slots);
+    match admission {
+        Answer::Refused(refusal) => Answer::Refused(refusal),
+        Answer::Done(_) => {
+            truncate_state(state, file, n);
+            clear_tail(frames, tail_slot(&slots, file, n), n);
+            Answer::Done(0)
+        }
+    }
+}
+
+// The answer of the truncate rule on the sizes of one file.
+pub fn sizes_answer(s: FileSizes, n: usize, greatest: u32) -> Answer
+    ensures { λ r. ⌜ coded r ≡ sizesAnswer greatest n s ⌝ }
+{
+    let limit = greatest as usize;
+    if cache_state::in_order(s, limit) {
+        if n <= limit {
+            return Answer::Done(0);
+        }
+        return Answer::Refused(Refusal::Range);
+    }
+    Answer::Refused(Refusal::Books)
+}
+
+// The sizes of one file after the truncate rule: as they came where it refuses.
+pub fn sizes_after(s: FileSizes, n: usize, greatest: u32) -> FileSizes
+    ensures { λ r. ⌜ r ≡ sizesAfter greatest n s ⌝ }
+{
+    let answer = sizes_answer(s, n, greatest);
+    match answer {
+        Answer::Refused(_) => s,
+        Answer::Done(_) => truncated_sizes(s, n as u32),
+    }
+}
+
+// The truncate rule on a record that is borrowed to be altered, told the greatest file size.
+pub fn truncate_sizes(s: &mut FileSizes, n: usize, greatest: u32) -> Answer
+    ensures { λ r. ⌜ (coded r ≡ sizesAnswer greatest n (now (s .entry))) × (now (s .exit) ≡ sizesAfter greatest n (now (s .entry))) ⌝ }
+{
+    let old = *s;
+    *s = sizes_after(old, n, greatest);
+    sizes_answer(old, n, greatest)
+}
