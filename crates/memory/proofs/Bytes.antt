@@ -6,7 +6,7 @@ use native.Mathlib.Omega.{arith}
 use native.Mathlib.Nat.{not-suc-le-zero, le-of-suc-le-suc, zero-add, suc-add, add-suc, sub-zero, suc-sub-suc}
 use native.Mathlib.Numerals.{add-one}
 use lib.ListN.{length, getD, set, take, drop, replicate, length-take, length-drop, length-replicate}
-use lib.Seq.{take-nil, drop-nil, drop-drop, getD-take, getD-drop, take-append-seam}
+use lib.Seq.{take-nil, drop-nil, take-take, take-add, drop-drop, getD-take, getD-drop, take-append-seam}
 use borrow.Rule.Slice.PartMut.{putMid}
 use Rattle.memory.specs.Bytes.{zeros, part, overwrite}
 
@@ -166,6 +166,14 @@ pub put-copy : (a e : ℕ) (xs ys zs : List ℕ) → ys ≡ overwrite (part xs a
 put-copy a e xs ys zs h l k m =
     let n : length ys ≡ e - a = ap length h ∙ length-overwrite (part xs a (e - a)) 0 zs ∙ length-part xs a (e - a) (omega arith) in
     put-back a e xs ys n k m ∙ rw h (over-part xs a (e - a) zs l)
+
+-- the next bytes of a list, after its first ones were laid over the front
+pub put-next : (a e k m : ℕ) (xs ys ws zs : List ℕ) → ws ≡ overwrite xs 0 (take a ys) → zs ≡ overwrite (part ws a (e - a)) 0 (take m (part ys a (k - a)))
+    → a ≤ length ys → a ≤ e → e ≤ length ws → m ≤ e - a → m ≤ k - a → putMid a (e - a) ws zs ≡ overwrite xs 0 (take (a + m) ys)
+put-next a e k m xs ys ws zs w z h i l n o =
+    let short : length (part ys a m) ≤ e - a = simp length-take (omega arith) in
+    put-copy a e ws zs (part ys a m) (z ∙ rw (take-take m (k - a) (drop a ys) o)) short i l
+    ∙ rw (w, take-add a m ys) (rw (length-front a ys h) at (sym (overwrite-join xs (take a ys) (part ys a m))))
 
 pub length-put : (a e : ℕ) (xs ys : List ℕ) → length ys ≡ e - a → a ≤ e → e ≤ length xs → length (putMid a (e - a) xs ys) ≡ length xs
 length-put a e xs ys l k m = rw (put-back a e xs ys l k m) (length-overwrite xs a ys)

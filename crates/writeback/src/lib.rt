@@ -9,7 +9,7 @@ use device::Outcome;
 ghost use mathlib.Core.Path.{_≡_};
 ghost use mathlib.Core.Bool.{not, _||_};
 ghost use mathlib.Core.List.{List, []};
-ghost use Prim.Native.Nat.{ℕ, _≤_, _<_, _^_, max};
+ghost use Prim.Native.Nat.{ℕ, _≤_, _<_, _^_};
 ghost use lib.ListN.{length, getD};
 ghost use lib.Dec.{eqb};
 ghost use Rattle.answer.specs.Coded.{coded};
@@ -228,37 +228,32 @@ pub fn sync(
     }
 }
 
-fn max(a: u8, b: u8) -> u8
-    ensures { λ r. ⌜ r ≡ max a b ⌝ }
-{
-    if a <= b { b } else { a }
-}
-
-// The greatest of the bytes, or 0 where there are none. The loop goes to the end, so that it becomes vector code.
-fn greatest(bytes: &[u8]) -> u8
+// The bitwise or of the bytes, which is 0 where all of them are. The loop goes to the end, so that it becomes vector code.
+fn bitwise_or(bytes: &[u8]) -> u8
     ensures { λ r. ⌜ eqb r 0 ≡ every (λ b. eqb b 0) (now (bytes .entry)) ⌝ }
 {
-    let mut most = 0u8;
+    let mut bits = 0u8;
     let mut i = 0;
     while i < bytes.len() {
-        most = max(most, bytes[i]);
+        bits = bits | bytes[i];
         i += 1;
     }
-    most
+    bits
 }
 
 // Whether all bytes are 0. A page at a time, since a loop of a known length is faster.
 fn is_zero(bytes: &[u8]) -> bool
     ensures { λ r. ⌜ r ≡ every (λ b. eqb b 0) (now (bytes .entry)) ⌝ }
 {
-    let mut most = 0u8;
     let mut from = 0;
     while media::PAGE_BYTES <= bytes.len() - from {
         let to = from + media::PAGE_BYTES;
-        most = max(most, greatest(&bytes[from..to]));
+        if bitwise_or(&bytes[from..to]) != 0 {
+            return false;
+        }
         from = to;
     }
-    max(most, greatest(&bytes[from..])) == 0
+    bitwise_or(&bytes[from..]) == 0
 }
 
 // Whether a file has a nonzero byte at or past n.
