@@ -1,17 +1,25 @@
 -- Calls on a device whose state is lent as bytes: what they leave, and that they are the calls on the device.
 use mathlib.Core.Path.{_≡_, refl, sym, ap, _∙_}
-use mathlib.Core.Bool.{true, false, false≢true}
-use mathlib.Core.List.{List, [], _∷_}
+use mathlib.Core.Logic.{_≢_}
+use mathlib.Core.Bool.{Bool, true, false, false≢true}
+use mathlib.Core.List.{List, [], _∷_, append-nil}
 use Prim.Native.Nat.{ℕ, zero, suc, _/_, _%_, _-_}
 use lib.Dec.{eqb}
 use lib.ListN.{take, length-set, length-map, length-replicate}
 use borrow.Table.Steps.{cases}
-use Rattle.answer.specs.Coded.{Coded}
+use borrow.Author.Tests.{eq-eqb, ne-eqb}
+use Rattle.scan.proofs.Scan.{true-not-false}
+use Rattle.answer.specs.declared.Refusal.{Refusal}
+use Rattle.answer.specs.Coded.{Coded, done, codedRefusal}
+use Rattle.answer.specs.Admission.{Test, firstRefusal}
+use Rattle.answer.proofs.Coded.{refusal-number}
+use Rattle.answer.proofs.Admission.{first-by}
 use Rattle.media.specs.Geometry.{files, pageBytes}
 use Rattle.media.specs.Write.{Media}
 use Rattle.device.specs.declared.CacheState.{CacheState}
 use Rattle.device.specs.Device.{Device, deviceOf, slotCount, freeSlot, isCached, downState, freeWhere}
-use Rattle.device.specs.Admission.{Result, give}
+use Rattle.device.specs.Admission.{Result, give, fileTests}
+use Rattle.device.proofs.Admission.{file-changeless}
 use Rattle.device.specs.Writing.{Written, hasSlot, cachePage, patchPage, putPage, putPages, grown, write}
 use Rattle.device.specs.Truncating.{pagesFrom, clearTail, withSizes, truncated, truncate}
 use Rattle.device.specs.Syncing.{pagesOf, syncedState, sync}
@@ -22,7 +30,7 @@ use Rattle.device.proofs.Syncing.{sync-by}
 use Rattle.device.proofs.Mounting.{mount-by, format-by}
 use Rattle.state_bytes.specs.Encoding.{encode, decode}
 use Rattle.state_bytes.specs.Inverse.{Shaped}
-use Rattle.state_bytes.specs.InPlace.{Lent, lent, deviceIn, lentOf, leavesState, stateAfter, onState}
+use Rattle.state_bytes.specs.InPlace.{Lent, lent, deviceIn, lentOf, IsEncoded, leavesState, stateAfter, onState}
 use Rattle.state_bytes.proofs.Inverse.{inverse}
 
 -- a result that is not done and not cut leaves the device as it came
@@ -65,6 +73,35 @@ module _ (call : Device → Result Device) (kept : (d : Device) → Kept d (call
       → give a (deviceOf m' frames' (decode state')) ≡ call (deviceOf m frames s)
   back-on kind m frames s h a m' frames' state' e =
       ap said (e ∙ same-on m frames s h) ∙ rw (inverse .there-and-back (call (deviceOf m frames s) .left .cache) (kind (deviceOf m frames s) h))
+
+-- ---- a call that leaves bytes: those that came, or those of the state that it leaves
+
+module _ (call : Device → Result Device) (l : Lent) (a : Coded) where
+  -- refused, with everything as it came
+  pub kept-on : leavesState a ≡ false → give a (deviceIn l) ≡ call (deviceIn l) → give a l ≡ onState call l
+  kept-on h e = refused-on call l a (deviceIn l) (sym e) h
+
+  pub encoded-on : ((d : Device) → Kept d (call d)) → IsEncoded (l .state) → (m : Media) (frames state : List ℕ) → IsEncoded state
+      → give a (deviceOf m frames (decode state)) ≡ call (deviceIn l) → give a (lent m frames state) ≡ onState call l
+  encoded-on kept came m frames state left e =
+      cases (leavesState a)
+      (λ h. rw left at (done-on call l a (deviceOf m frames (decode state)) (sym e) h))
+      (λ h.
+      let d : Device = deviceOf m frames (decode state) in
+      let k : d ≡ deviceIn l = ap (λ (r : Result Device). r .left) e ∙ kept (deviceIn l) (rw (← e) h) in
+      let q : l .state ≡ state = sym came ∙ ap (λ (c : Device). encode (c .cache)) (sym k) ∙ left in
+      ap (λ (x : List ℕ). give a (lent m frames x)) (sym q) ∙ refused-on call l a d (sym e) h)
+
+-- a refusal of the tests of a file is neither done nor cut
+pub refused-leaves : (P f : ℕ) (range : Bool) (d : Device) (x : Refusal) → codedRefusal x ≡ firstRefusal (fileTests P d f range) (done 0)
+    → leavesState (codedRefusal x) ≡ false
+refused-leaves P f range d x e =
+    let ts : List Test = fileTests P d f range in
+    let some : codedRefusal x .number ≢ 0 = λ z. true-not-false (eqb (codedRefusal x .number) 0) (eq-eqb (codedRefusal x .number) 0 z) (refusal-number x) in
+    let by : firstRefusal ts (done 0) .number ≢ 0 → leavesState (firstRefusal ts (done 0)) ≡ false =
+    first-by (λ a. a .number ≢ 0 → leavesState a ≡ false) ts (done 0) (rw append-nil at (file-changeless P d f range [] tt))
+    (λ k lo hi n. rw (ne-eqb k 0 n, ne-eqb k 9 hi)) (λ h n. absurd (n refl)) in
+    rw e (by (rw (← e) some))
 
 -- ---- what is done or cut is no refusal that changes nothing
 

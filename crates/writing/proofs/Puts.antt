@@ -1,19 +1,26 @@
 -- The pages of a write.
 use mathlib.Core.Path.{_≡_, refl, sym, ap, _∙_}
+use mathlib.Core.Logic.{_≢_}
 use mathlib.Core.Bool.{Bool, true, false, cond}
 use mathlib.Core.List.{List, []}
-use Prim.Native.Nat.{ℕ, zero, suc, _+_, _<_, _≤_, _-_, _/_, _%_, min}
+use Prim.Native.Nat.{ℕ, zero, suc, _+_, _<_, _≤_, _-_, _*_, _/_, _%_, min}
 use native.Mathlib.Omega.{arith}
-use lib.ListN.{length, drop, length-drop}
+use lib.ListN.{length, getD, drop, length-drop}
 use lib.Seq.{drop-drop}
-use borrow.Author.Tests.{lt-ltb, le-ltb}
+use borrow.Author.Tests.{lt-ltb, le-ltb, ltb-true}
+use borrow.Table.Steps.{cases}
 use Rattle.memory.specs.Bytes.{part}
-use Rattle.media.specs.Geometry.{pageBytes, fileBytes}
+use Rattle.media.specs.Geometry.{files, pageBytes, fileBytes, pagesPerFile}
 use Rattle.media.specs.Write.{mediaOf}
 use Rattle.scan.specs.Scan.{firstIndex}
+use Rattle.device.specs.declared.Slot.{Slot}
 use Rattle.device.specs.declared.CacheState.{CacheState}
-use Rattle.device.specs.Device.{Device, deviceOf, slotCount, isFree, holds}
-use Rattle.device.specs.Writing.{hasSlot, putPage, andMore, putPages}
+use Rattle.cache_state.specs.Tables.{slotTable}
+use Rattle.cache_state.proofs.Pass.{table-slot}
+use Rattle.scan.proofs.Scan.{first-set}
+use Rattle.device.specs.Device.{Device, deviceOf, slotCount, freeSlot, isFree, holds, slotOf, isCached, firstFree}
+use Rattle.device.specs.Writing.{hasSlot, cachePage, patchPage, putPage, andMore, putPages}
+use Rattle.device.proofs.Device.{holds-one, free-holds, first-free-was-free}
 use Rattle.device.proofs.Writing.{pages-none, pages-stop, pages-next}
 
 -- ---- whether a page has a slot: k is its own, and j the first that is free
@@ -29,12 +36,46 @@ module _ (s : CacheState) (f p k : ℕ) (ek : k ≡ firstIndex (holds f p) (s .s
     pub slot-none : slotCount ≤ j → false ≡ hasSlot (deviceOf (mediaOf [] []) [] s) f p
     slot-none l = rw (← ek, le-ltb k slotCount h, ← ej, le-ltb j slotCount l)
 
+-- another page keeps its slot
+pub other-slot : (P f p q offset : ℕ) (bytes : List ℕ) (d : Device) → length (d .cache .slots) ≡ slotCount → hasSlot d f p ≡ true → q ≢ p
+    → slotOf (putPage P f p offset bytes d) f q ≡ slotOf d f q
+unfolding putPage patchPage cachePage
+other-slot P f p q offset bytes d l h ne =
+    cases (isCached d f p)
+    (λ e. rw e)
+    (λ e.
+    let j : firstFree d < slotCount = ltb-true (firstFree d) slotCount (rw e at h) in
+    rw e
+    (first-set (holds f q) (d .cache .slots) (firstFree d) (record { used = true; file = f; page = p }) freeSlot
+    (holds-one f p f q (record { used = true; file = f; page = p }) refl refl (λ k. ne (k .1)))
+    (free-holds f q (getD (d .cache .slots) (firstFree d) freeSlot) (first-free-was-free d (omega arith)))))
+
 -- what a page step left, by whether the page had a slot
 pub taken-yes : (b : Bool) (c x y : Device) → c ≡ cond b x y → b ≡ true → c ≡ x
 taken-yes b c x y e t = e ∙ rw t
 
 pub taken-no : (b : Bool) (c x y : Device) → c ≡ cond b x y → b ≡ false → c ≡ y
 taken-no b c x y e t = e ∙ rw t
+
+-- ---- the table of slots
+
+-- n bytes are left from position i of file f on: the table has the slots of the pages that they go to
+abbrev pub Told : List ℕ → ℕ → ℕ → ℕ → List Slot → Type 0
+Told table f i n slots =
+    0 < n → (p : ℕ) → i / pageBytes ≤ p → p < pagesPerFile → getD table (pagesPerFile * f + p) 0 ≡ firstIndex (holds f p) slots
+
+module _ (table : List ℕ) (f : ℕ) where
+  pub told-all : f < files → (i n : ℕ) (slots : List Slot) → table ≡ slotTable pagesPerFile slots → Told table f i n slots
+  told-all hf i n slots e h p l hp = rw e (table-slot slots f p hf hp)
+
+  -- the page at i took its piece of k bytes, as many as there were or to its end
+  pub told-next : (i n : ℕ) (d : Device) → Told table f i n (d .cache .slots) → length (d .cache .slots) ≡ slotCount
+      → hasSlot d f (i / pageBytes) ≡ true → (k j m offset : ℕ) (bytes : List ℕ) (c : Device) → k ≡ min (pageBytes - i % pageBytes) n → j ≡ i + k → m ≡ n - k
+      → c ≡ putPage pagesPerFile f (i / pageBytes) offset bytes d → Told table f j m (c .cache .slots)
+  told-next i n d t l has k j m offset bytes c ek ej em ec h p hl hp =
+      let ne : p ≢ i / pageBytes = λ q. absurd (omega arith) in
+      t (omega arith) p (omega arith) hp
+      ∙ sym (ap (λ (x : Device). slotOf x f p) ec ∙ other-slot pagesPerFile f (i / pageBytes) p offset bytes d l has ne)
 
 -- ---- the pages
 

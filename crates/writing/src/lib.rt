@@ -114,6 +114,13 @@ fn put_page(
     false
 }
 
+// A slot's number from the table.
+fn wide(k: u8) -> usize
+    ensures { λ r. ⌜ r ≡ k ⌝ }
+{
+    k as usize
+}
+
 // The pages of a write, ascending, until one has no slot. Each takes the piece that begins where the page before stopped. The number
 // of bytes put down comes back. The table has the slots at the start: a page that becomes cached takes no other's.
 fn put_pages(
@@ -136,9 +143,19 @@ fn put_pages(
         let page = (position + from) / PAGE_BYTES;
         let offset = (position + from) % PAGE_BYTES;
         let to = from + number::min(PAGE_BYTES - offset, bytes.len() - from);
-        let k = slots[PAGES_PER_FILE * file + page] as usize;
+        let k = wide(slots[PAGES_PER_FILE * file + page]);
         let piece = &bytes[from..to];
-        if put_page(media, frames, state, file, page, offset, piece, k, PAGES_PER_FILE) {
+        if put_page(
+            media,
+            frames,
+            state,
+            file,
+            page,
+            offset,
+            piece,
+            k,
+            PAGES_PER_FILE,
+        ) {
             from = to;
         } else {
             return from;
@@ -251,7 +268,7 @@ fn tail_slot(slots: &[u8; TABLE], file: usize, n: usize) -> usize
     if n % PAGE_BYTES == 0 {
         return SLOTS;
     }
-    slots[PAGES_PER_FILE * file + n / PAGE_BYTES] as usize
+    wide(slots[PAGES_PER_FILE * file + n / PAGE_BYTES])
 }
 
 // The page that n falls inside, in slot k where it is cached, gets zeros from n on.
@@ -281,7 +298,15 @@ pub fn truncate(
 {
     let greatest = PAGE_BYTES * PAGES_PER_FILE;
     let mut slots = [0u8; TABLE];
-    let admission = cache_state::admit(media, sizes, frames, state, file, n <= greatest, &mut slots);
+    let admission = cache_state::admit(
+        media,
+        sizes,
+        frames,
+        state,
+        file,
+        n <= greatest,
+        &mut slots,
+    );
     match admission {
         Answer::Refused(refusal) => Answer::Refused(refusal),
         Answer::Done(_) => {

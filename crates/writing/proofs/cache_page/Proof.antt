@@ -1,60 +1,50 @@
+-- `writing::cache_page` meets its contract: the slot k was the first free one.
+use mathlib.Core.Path.{_≡_, _∙_}
+use Rattle.device.specs.Writing.{filledPage, cachePage}
+use Rattle.state_bytes.proofs.InPlace.{slot-changed}
 use borrow.Author.Needs.{needs}
 use Rattle.writing.proofs.cache_page.Statement.{statement}
 use Rattle.writing.proofs.cache_page.Tie as tie
-use Rattle.writing.proofs.cache_page.Reads as reads
-use Rattle.writing.proofs.cache_page.Lts as lts
-use Rattle.state_bytes.proofs.floor_at.Reads as floor-at-reads
-use Rattle.state_bytes.proofs.set_slot.Reads as set-slot-reads
-use Rattle.writing.proofs.filled_page.Reads as filled-page-reads
-use Rattle.writing.proofs.patch_frames.Reads as patch-frames-reads
 
--- src/lib.rt:72:17
 floor-at-requires : tie.Need-floor-at-requires
 floor-at-requires c κs = search needs
 
--- src/lib.rt:72:17
 cast-floor : tie.Need-cast-floor
 cast-floor c = search needs
 
--- src/lib.rt:73:17
 filled-page-requires : tie.Need-filled-page-requires
 filled-page-requires c κs = search needs
 
--- src/lib.rt:74:26
 mul-patch-frames : tie.Need-mul-patch-frames
 mul-patch-frames c = search needs
 
--- src/lib.rt:74:42
 slice-aggregate-patch-frames : tie.Need-slice-aggregate-patch-frames
 slice-aggregate-patch-frames c = search needs
 
--- src/lib.rt:74:5
 patch-frames-requires : tie.Need-patch-frames-requires
 patch-frames-requires c κs = search needs
 
--- src/lib.rt:77:15
 cast-t21 : tie.Need-cast-t21
 cast-t21 c = search needs
 
--- src/lib.rt:78:15
 cast-t22 : tie.Need-cast-t22
 cast-t22 c = search needs
 
--- src/lib.rt:80:5
 set-slot-requires : tie.Need-set-slot-requires
 set-slot-requires c κs = search needs
 
--- src/lib.rt:57:1
 same-length : tie.Need-same-length
 same-length c = search needs
 
--- src/lib.rt:57:1
 same-length-2 : tie.Need-same-length-2
 same-length-2 c = search needs
 
--- src/lib.rt:57:1
 returns : tie.Need-returns
-returns c = ?
+unfolding cachePage filledPage
+returns c =
+    let s = c .before .before .before .before .before .before .before .before .before .before .before .before .before .before .before in
+    let x = slot-changed (s .args .state .now) (s .pre .7) _ _ _ (c .before .before .set-slot .ensures) in
+    (λ stored. rw (x .0, c .before .before .before .before .before .before .patch-frames .ensures, c .before .before .before .before .before .before .before .before .before .filled-page .ensures, c .before .before .before .before .before .before .before .before .before .before .floor-at .ensures, ← (s .pre .6)), x .1)
 
 pub cache-page-spec : {M : Type 1} → statement M
 cache-page-spec =

@@ -1,71 +1,86 @@
+-- `writing::put_page` meets its contract: the page is cached, or becomes cached in the first free slot, or there is none.
+use mathlib.Core.Path.{_≡_, refl}
+use Prim.Native.Nat.{_≤_}
+use native.Mathlib.Omega.{arith}
+use Rattle.media.specs.Write.{mediaOf}
+use Rattle.scan.specs.Scan.{firstIndex}
+use Rattle.device.specs.Device.{deviceOf, slotCount, holds}
+use Rattle.device.proofs.Writing.{put-cached-in, put-new-in}
+use Rattle.state_bytes.specs.Encoding.{decode}
+use Rattle.state_bytes.proofs.InPlace.{shaped}
+use Rattle.writing.proofs.Puts.{slot-own, slot-free, slot-none}
 use borrow.Author.Needs.{needs}
 use Rattle.writing.proofs.put_page.Statement.{statement}
 use Rattle.writing.proofs.put_page.Tie as tie
-use Rattle.writing.proofs.put_page.Reads as reads
-use Rattle.writing.proofs.put_page.Lts as lts
-use Rattle.cache_state.proofs.first_free.Reads as first-free-reads
-use Rattle.writing.proofs.cache_page.Reads as cache-page-reads
-use Rattle.writing.proofs.patch_frames.Reads as patch-frames-reads
 
--- src/lib.rt:105:30
 mul-patch-frames : tie.Need-mul-patch-frames
 mul-patch-frames c = search needs
 
--- src/lib.rt:105:30
 add-patch-frames : tie.Need-add-patch-frames
 add-patch-frames c = search needs
 
--- src/lib.rt:105:9
 patch-frames-requires : tie.Need-patch-frames-requires
 patch-frames-requires c κs = search needs
 
--- src/lib.rt:106:9
 same-length : tie.Need-same-length
 same-length c = search needs
 
--- src/lib.rt:106:9
 returns : tie.Need-returns
-returns c = ?
+returns c =
+    let s = c .before .before .before .before .before .before .before .before .before in
+    let a = s .args in (
+      slot-own (decode (a .state .now)) (a .file) (a .page) _ (s .pre .6) (omega arith),
+      λ stored.
+          rw (c .before .before .patch-frames .ensures)
+          (put-cached-in (a .pages) (a .file) (a .page) (deviceOf (mediaOf (a .media .now) stored) (a .frames .now) (decode (a .state .now))) _ (a .offset) (a .bytes .now) (s .pre .6) (omega arith)),
+      s .pre .7,
+    )
 
--- src/lib.rt:108:9
 first-free-requires : tie.Need-first-free-requires
 first-free-requires c κs = search needs
 
--- src/lib.rt:110:9
 cache-page-requires : tie.Need-cache-page-requires
 cache-page-requires c κs = search needs
 
--- src/lib.rt:111:30
 mul-patch-frames-2 : tie.Need-mul-patch-frames-2
 mul-patch-frames-2 c = search needs
 
--- src/lib.rt:111:30
 add-patch-frames-2 : tie.Need-add-patch-frames-2
 add-patch-frames-2 c = search needs
 
--- src/lib.rt:111:9
 patch-frames-requires-2 : tie.Need-patch-frames-requires-2
 patch-frames-requires-2 c κs = search needs
 
--- src/lib.rt:112:9
 same-length-2 : tie.Need-same-length-2
 same-length-2 c = search needs
 
--- src/lib.rt:112:9
 same-length-3 : tie.Need-same-length-3
 same-length-3 c = search needs
 
--- src/lib.rt:112:9
 returns-2 : tie.Need-returns-2
-returns-2 c = ?
+returns-2 c =
+    let s = c .before .before .before .before .before .before .before .before .before .before .before .before .before .before .before .before .before .before .before in
+    let k = c .before .before .before .before .before .before .before .before in
+    let f = c .before .before .before .before .before .before .before .before .before .before .before .before in
+    let a = s .args in
+    let none : slotCount ≤ firstIndex (holds (a .file) (a .page)) (decode (a .state .now) .slots) = omega (arith, s .pre .6) in (
+      slot-free (decode (a .state .now)) (a .file) (a .page) _ (s .pre .6) (omega arith) _ (f .first-free .ensures) (omega arith),
+      λ stored.
+          rw (c .before .before .patch-frames2 .ensures)
+          (put-new-in (a .pages) (a .file) (a .page) (deviceOf (mediaOf (a .media .now) stored) (a .frames .now) (decode (a .state .now))) (mediaOf (a .media .now) stored)
+          _ _ (f .first-free .result) (a .offset) (a .bytes .now)
+          (k .cache-page .ensures .0 stored) (f .first-free .ensures) (shaped (a .state .now) .slots) none (omega (arith, f .first-free .ensures))),
+      k .cache-page .ensures .1,
+    )
 
--- src/lib.rt:85:1
 same-length-4 : tie.Need-same-length-4
 same-length-4 c = search needs
 
--- src/lib.rt:85:1
 returns-3 : tie.Need-returns-3
-returns-3 c = ?
+returns-3 c =
+    let s = c .before .before .before .before .before .before .before .before in
+    let a = s .args in
+    (slot-none (decode (a .state .now)) (a .file) (a .page) _ (s .pre .6) (omega arith) _ (c .before .first-free .ensures) (omega arith), λ stored. refl, s .pre .7)
 
 pub put-page-spec : {M : Type 1} → statement M
 put-page-spec =

@@ -1,107 +1,119 @@
+-- `writing::put_pages` meets its contract: what is still to be put from here gives what was to be put at the start.
+use mathlib.Core.Path.{_≡_, sym, _∙_}
+use mathlib.Core.List.{List, []}
+use Prim.Native.Nat.{ℕ, _+_, _-_, _≤_}
+use native.Mathlib.Omega.{arith}
+use lib.ListN.{length}
+use borrow.Author.Needs.{needs}
+use Rattle.media.specs.Geometry.{pagesPerFile}
+use Rattle.media.specs.Write.{mediaOf}
+use Rattle.device.specs.Device.{deviceOf}
+use Rattle.state_bytes.specs.Encoding.{decode}
+use Rattle.state_bytes.specs.InPlace.{IsEncoded}
+use Rattle.state_bytes.proofs.InPlace.{shaped}
+use Rattle.writing.proofs.Puts.{taken-yes, taken-no, Told, told-all, told-next, Rest, rest-none, rest-end, rest-stop, rest-next}
 use Rattle.writing.proofs.put_pages.Statement.{statement}
 use Rattle.writing.proofs.put_pages.Tie as tie
-use Rattle.writing.proofs.put_pages.Reads as reads
-use Rattle.writing.proofs.put_pages.Lts as lts
-use Rattle.number.proofs.min.Reads as min-reads
-use Rattle.writing.proofs.put_page.Reads as put-page-reads
 
 abbrev Inv-loop : tie.InvT-loop
-Inv-loop media frames₀ state₀ slots file position bytes from₀ frames state from = ?
+Inv-loop media frames₀ state₀ slots file position bytes from₀ frames state from =
+    ((stored : List ℕ) → Rest pagesPerFile file position bytes (deviceOf (mediaOf media stored) frames₀ (decode state₀)) from (deviceOf (mediaOf media stored) frames (decode state)))
+    × (from ≤ length bytes) × (length frames ≡ length frames₀) × IsEncoded state
+    × Told slots file (position + from) (length bytes - from) (decode state .slots) × (length state ≡ length state₀)
 
 abbrev μ-loop : tie.MeasureT-loop
-μ-loop media frames₀ state₀ slots file position bytes from₀ frames state from = ?
+μ-loop media frames₀ state₀ slots file position bytes from₀ frames state from = length bytes - from
 
--- src/lib.rt:135:5
 loop-holds : tie.Need-loop-holds Inv-loop μ-loop
-loop-holds c = ?
+loop-holds c =
+    let s = c .before .before .before .before in
+    (λ stored. rest-none, search needs, search needs, s .pre .5, told-all (s .args .slots .now) (s .args .file) (omega arith) _ _ _ (s .pre .4), search needs)
 
--- src/lib.rt:136:21
 add-page : tie.Need-add-page Inv-loop μ-loop
-add-page c = ?
+add-page c = search needs
 
--- src/lib.rt:137:23
 add-offset : tie.Need-add-offset Inv-loop μ-loop
-add-offset c = ?
+add-offset c = search needs
 
--- src/lib.rt:138:37
 sub-min : tie.Need-sub-min Inv-loop μ-loop
-sub-min c = ?
+sub-min c = search needs
 
--- src/lib.rt:138:58
 sub-min-2 : tie.Need-sub-min-2 Inv-loop μ-loop
-sub-min-2 c = ?
+sub-min-2 c = search needs
 
--- src/lib.rt:138:25
 min-requires : tie.Need-min-requires Inv-loop μ-loop
-min-requires c κs = ?
+min-requires c κs = search needs
 
--- src/lib.rt:138:18
 add-to : tie.Need-add-to Inv-loop μ-loop
-add-to c = ?
+add-to c = search needs
 
--- src/lib.rt:139:23
-mul-k : tie.Need-mul-k Inv-loop μ-loop
-mul-k c = ?
+mul-wide : tie.Need-mul-wide Inv-loop μ-loop
+mul-wide c = search needs
 
--- src/lib.rt:139:23
-add-k : tie.Need-add-k Inv-loop μ-loop
-add-k c = ?
+add-wide : tie.Need-add-wide Inv-loop μ-loop
+add-wide c = search needs
 
--- src/lib.rt:139:17
-element-copy-out-k : tie.Need-element-copy-out-k Inv-loop μ-loop
-element-copy-out-k c = ?
+element-copy-out-wide : tie.Need-element-copy-out-wide Inv-loop μ-loop
+element-copy-out-wide c = search needs
 
--- src/lib.rt:139:17
-cast-k : tie.Need-cast-k Inv-loop μ-loop
-cast-k c = ?
+wide-requires : tie.Need-wide-requires Inv-loop μ-loop
+wide-requires c κs = search needs
 
--- src/lib.rt:140:21
 sub-piece : tie.Need-sub-piece Inv-loop μ-loop
-sub-piece c = ?
+sub-piece c = search needs
 
--- src/lib.rt:140:21
 part-piece-start : tie.Need-part-piece-start Inv-loop μ-loop
-part-piece-start c = ?
+part-piece-start c = search needs
 
--- src/lib.rt:140:21
 part-piece-end : tie.Need-part-piece-end Inv-loop μ-loop
-part-piece-end c = ?
+part-piece-end c = search needs
 
--- src/lib.rt:141:12
 put-page-requires : tie.Need-put-page-requires Inv-loop μ-loop
-put-page-requires c κs = ?
+put-page-requires c κs =
+    let l = c .before .before .before .before .before .before .before in
+    let s = c .before .before .before .before .before .before .before .before .before .before .before .before in
+    (search needs, search needs, omega (arith, l .loop .inv .2), search needs, omega arith, omega arith, c .before .before .before .wide .ensures ∙ l .loop .inv .4 (omega arith) _ (omega arith) (omega arith), l .loop .inv .3)
 
--- src/lib.rt:135:5
 loop-less : tie.Need-loop-less Inv-loop μ-loop
-loop-less c = ?
+loop-less c = omega arith
 
--- src/lib.rt:135:5
 loop-again : tie.Need-loop-again Inv-loop μ-loop
-loop-again c = ?
+loop-again c =
+    let p = c .before .before .before .before .before in
+    let n = c .before .before .before .before .before .before .before .before .before .before .before in
+    let l = c .before .before .before .before .before .before .before .before .before .before .before .before .before in
+    let s = c .before .before .before .before .before .before .before .before .before .before .before .before .before .before .before .before .before .before in
+    let a = s .args in
+    let has = sym (p .put-page .ensures .0) ∙ c .if1 .taken in (
+      λ stored. rest-next (l .loop .inv .0 stored) (n .min .result) _ (omega arith) (omega arith) has (omega arith) (taken-yes _ _ _ _ (p .put-page .ensures .1 stored) (c .if1 .taken)),
+      omega arith,
+      omega (arith, p .put-page .kept .1 .0, p .put-page .kept .1 .1 .0, l .loop .inv .2),
+      p .put-page .ensures .2,
+      told-next (a .slots .now) (a .file) (a .position + l .loop .from) (length (a .bytes .now) - l .loop .from) (deviceOf (mediaOf (a .media .now) []) (l .loop .frames) (decode (l .loop .state)))
+          (l .loop .inv .4) (shaped (l .loop .state) .slots) has (n .min .result) _ _ _ _ _ (omega arith) (omega arith) (omega arith) (taken-yes _ _ _ _ (p .put-page .ensures .1 []) (c .if1 .taken)),
+      omega (arith, p .put-page .kept .1 .0, p .put-page .kept .1 .1 .0, l .loop .inv .5),
+    )
 
--- src/lib.rt:144:13
 same-length : tie.Need-same-length Inv-loop μ-loop
-same-length c = ?
+same-length c = search needs
 
--- src/lib.rt:144:13
 same-length-2 : tie.Need-same-length-2 Inv-loop μ-loop
-same-length-2 c = ?
+same-length-2 c = omega (arith, c .before .before .before .before .before .put-page .kept .1 .1 .0, c .before .before .before .before .before .before .before .before .before .before .before .before .before .loop .inv .5)
 
--- src/lib.rt:144:13
 returns : tie.Need-returns Inv-loop μ-loop
-returns c = ?
+returns c =
+    let p = c .before .before .before .before .before in
+    let l = c .before .before .before .before .before .before .before .before .before .before .before .before .before in
+    (λ stored. rest-stop (l .loop .inv .0 stored) _ (sym (p .put-page .ensures .0) ∙ c .if1 .left) (taken-no _ _ _ _ (p .put-page .ensures .1 stored) (c .if1 .left)), p .put-page .ensures .2)
 
--- src/lib.rt:119:1
 same-length-3 : tie.Need-same-length-3 Inv-loop μ-loop
-same-length-3 c = ?
+same-length-3 c = search needs
 
--- src/lib.rt:119:1
 same-length-4 : tie.Need-same-length-4 Inv-loop μ-loop
-same-length-4 c = ?
+same-length-4 c = omega (arith, c .before .loop .inv .5)
 
--- src/lib.rt:119:1
 returns-2 : tie.Need-returns-2 Inv-loop μ-loop
-returns-2 c = ?
+returns-2 c = (λ stored. rest-end (c .before .loop .inv .0 stored) (omega arith), c .before .loop .inv .3)
 
 pub put-pages-spec : {M : Type 1} → statement M
 put-pages-spec =
@@ -116,10 +128,10 @@ put-pages-spec =
     sub-min-2
     min-requires
     add-to
-    mul-k
-    add-k
-    element-copy-out-k
-    cast-k
+    mul-wide
+    add-wide
+    element-copy-out-wide
+    wide-requires
     sub-piece
     part-piece-start
     part-piece-end

@@ -1,34 +1,34 @@
+-- `writing::tail_slot` meets its contract: n begins a page, or falls inside one that stays.
+use mathlib.Core.Path.{_≡_, _∙_}
+use Prim.Native.Nat.{_/_}
+use native.Mathlib.Omega.{arith}
+use Rattle.media.specs.Geometry.{pageBytes}
+use Rattle.cache_state.proofs.Pass.{table-slot}
+use Rattle.writing.proofs.Tails.{tail-gone, tail-stays}
 use borrow.Author.Needs.{needs}
 use Rattle.writing.proofs.tail_slot.Statement.{statement}
 use Rattle.writing.proofs.tail_slot.Tie as tie
-use Rattle.writing.proofs.tail_slot.Reads as reads
-use Rattle.writing.proofs.tail_slot.Lts as lts
 
--- src/lib.rt:252:9
 returns : tie.Need-returns
-returns c = ?
+returns c = λ s l e. tail-gone (c .before .args .file) (c .before .args .n) (s .slots) l (c .if1 .taken)
 
--- src/lib.rt:254:11
-mul-result : tie.Need-mul-result
-mul-result c = search needs
+mul-wide : tie.Need-mul-wide
+mul-wide c = search needs
 
--- src/lib.rt:254:11
-add-result : tie.Need-add-result
-add-result c = search needs
+add-wide : tie.Need-add-wide
+add-wide c = search needs
 
--- src/lib.rt:254:5
-element-copy-out-result : tie.Need-element-copy-out-result
-element-copy-out-result c = search needs
+element-copy-out-wide : tie.Need-element-copy-out-wide
+element-copy-out-wide c = search needs
 
--- src/lib.rt:254:5
-cast-result : tie.Need-cast-result
-cast-result c = ?
+wide-requires : tie.Need-wide-requires
+wide-requires c κs = search needs
 
--- src/lib.rt:246:1
 returns-2 : tie.Need-returns-2
-returns-2 c = ?
+returns-2 c =
+    let a = c .before .before .before .args in
+    λ s l e. c .wide .ensures ∙ rw e (table-slot (s .slots) (a .file) (a .n / pageBytes) (omega arith) (omega arith) ∙ tail-stays (a .file) (a .n) (s .slots) (c .before .before .if1 .left))
 
 pub tail-slot-spec : {M : Type 1} → statement M
 tail-slot-spec =
-    tie.close
-    (tie.spec returns mul-result add-result element-copy-out-result cast-result returns-2)
+    tie.close (tie.spec returns mul-wide add-wide element-copy-out-wide wide-requires returns-2)

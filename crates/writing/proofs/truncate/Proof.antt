@@ -1,64 +1,114 @@
+-- `writing::truncate` meets its contract: refused as `admit` says, or the state and the tail.
+use mathlib.Core.Path.{_≡_, sym, _∙_, ap}
+use mathlib.Core.Bool.{Bool}
+use Prim.Native.Nat.{_≤_, _/_}
+use native.Mathlib.Omega.{arith}
+use lib.Dec.{leb}
+use borrow.Author.Tests.{leb-true}
+use Rattle.answer.specs.declared.Answer.{Answer}
+use Rattle.answer.specs.Coded.{coded}
+use Rattle.media.specs.Geometry.{pageBytes, pagesPerFile, fileBytes}
+use Rattle.media.specs.Write.{mediaOf}
+use Rattle.scan.specs.Scan.{firstIndex}
+use Rattle.device.specs.declared.CacheState.{CacheState}
+use Rattle.device.specs.Device.{Device, holds}
+use Rattle.device.specs.Admission.{Result}
+use Rattle.device.specs.Truncating.{withSizes, truncate}
+use Rattle.device.proofs.Admission.{Admitted, file-passed, file-refused, file-ready}
+use Rattle.device.proofs.Truncating.{truncate-refused, truncate-done}
+use Rattle.state_bytes.specs.Encoding.{decode}
+use Rattle.state_bytes.specs.InPlace.{Lent, lent, deviceIn, IsEncoded}
+use Rattle.state_bytes.proofs.InPlace.{shaped}
+use Rattle.state_bytes.proofs.OnState.{kept-on, encoded-on, refused-leaves, truncate-kept}
+use Rattle.cache_state.specs.Tables.{slotTable, tableAfter}
+use Rattle.cache_state.proofs.Soundness.{table-done}
 use borrow.Author.Needs.{needs}
 use Rattle.writing.proofs.truncate.Statement.{statement}
 use Rattle.writing.proofs.truncate.Tie as tie
-use Rattle.writing.proofs.truncate.Reads as reads
-use Rattle.writing.proofs.truncate.Lts as lts
-use Rattle.cache_state.proofs.admit.Reads as admit-reads
-use Rattle.writing.proofs.clear_tail.Reads as clear-tail-reads
-use Rattle.writing.proofs.tail_slot.Reads as tail-slot-reads
-use Rattle.writing.proofs.truncate_state.Reads as truncate-state-reads
 
--- src/lib.rt:282:20
+-- the device at the start, as it is lent
+abbrev came : tie.Start → Lent
+came c = lent (mediaOf (c .args .media .now) (c .args .sizes .now)) (c .args .frames .now) (c .args .state .now)
+
+abbrev device : tie.Start → Device
+device c = deviceIn (came c)
+
+abbrev range : tie.Start → Bool
+range c = leb (c .args .n) (fileBytes pagesPerFile)
+
+abbrev call : tie.Start → Device → Result Device
+call c = truncate pagesPerFile (c .args .file) (c .args .n)
+
+-- what `admit` has tested
+ready : (c : tie.After-enum-told) → let s = c .before .before .before .before .before .before .before .before .before .before in Admitted pagesPerFile (device s) (s .args .file) (range s)
+ready c = let s = c .before .before .before .before .before .before .before .before .before .before in file-ready pagesPerFile (device s) _ (range s) (c .before .before .admit .result) (c .before .before .admit .ensures .0) _ (c .enum-told .given .1)
+
+in-limits : (c : tie.After-enum-told) → c .before .before .before .before .before .before .before .before .before .before .args .n ≤ fileBytes pagesPerFile
+in-limits c = leb-true _ _ (ready c .in-range)
+
+-- the bytes of the state are those of a state
+encoded : (c : tie.After-enum-told) → IsEncoded (c .before .before .before .before .before .before .before .before .before .before .args .state .now)
+encoded c = c .before .before .admit .ensures .2 (ap (λ (a : Answer). coded a .number) (c .enum-told .given .1))
+
+table : (c : tie.After-enum-told) → c .before .before .admit .last .1 .1 .1 .1 .1 .1 .0 ≡ slotTable pagesPerFile (decode (c .before .before .before .before .before .before .before .before .before .before .args .state .now) .slots)
+table c =
+    let slots = decode (c .before .before .before .before .before .before .before .before .before .before .args .state .now) .slots in
+    c .before .before .admit .ensures .1 ∙ ap (λ (a : Answer). tableAfter (coded a) slots) (c .enum-told .given .1) ∙ sym (table-done _ slots)
+
 mul-greatest : tie.Need-mul-greatest
 mul-greatest c = search needs
 
--- src/lib.rt:284:9
 admit-requires : tie.Need-admit-requires
 admit-requires c κs = search needs
 
--- src/lib.rt:286:25
 enum-known-admission : tie.Need-enum-known-admission
 enum-known-admission c = search needs
 
--- src/lib.rt:288:28
 enum-told : tie.Need-enum-told
 enum-told c = search needs
 
--- src/lib.rt:288:13
 truncate-state-requires : tie.Need-truncate-state-requires
-truncate-state-requires c κs = ?
+truncate-state-requires c κs = (ready (c .before) .file, omega (arith, in-limits (c .before)), encoded (c .before))
 
--- src/lib.rt:289:32
 tail-slot-requires : tie.Need-tail-slot-requires
-tail-slot-requires c κs = ?
+tail-slot-requires c κs = (ready (c .before .before .before .before .before .before) .file, in-limits (c .before .before .before .before .before .before))
 
--- src/lib.rt:289:13
 clear-tail-requires : tie.Need-clear-tail-requires
-clear-tail-requires c κs = ?
+clear-tail-requires c κs = ready (c .before .before .before .before .before .before .before) .frames
 
--- src/lib.rt:271:1
 same-length : tie.Need-same-length
 same-length c = search needs
 
--- src/lib.rt:271:1
 same-length-2 : tie.Need-same-length-2
 same-length-2 c = search needs
 
--- src/lib.rt:271:1
 returns : tie.Need-returns
-returns c = ?
+returns c =
+    let b = c .before .before .before in
+    let s = c .before .before .before .before .before .before .before .before .before .before .before in
+    let x = c .before .admission .given .0 .0 in
+    let r = file-refused pagesPerFile (device s) (s .args .file) (range s) (b .admit .result) (b .admit .ensures .0) x (c .before .admission .given .1) in
+    kept-on (call s) (came s) _ (refused-leaves pagesPerFile (s .args .file) (range s) (device s) x r)
+    (truncate-refused pagesPerFile (s .args .file) (s .args .n) (device s) x r)
 
--- src/lib.rt:271:1
 same-length-3 : tie.Need-same-length-3
 same-length-3 c = search needs
 
--- src/lib.rt:271:1
 same-length-4 : tie.Need-same-length-4
 same-length-4 c = search needs
 
--- src/lib.rt:271:1
 returns-2 : tie.Need-returns-2
-returns-2 c = ?
+unfolding withSizes
+returns-2 c =
+    let t = c .before .before .before .before .before .before .before .before .before .before in
+    let s = c .before .before .before .before .before .before .before .before .before .before .before .before .before .before .before .before .before .before .before .before in
+    let a = s .args in
+    let u = c .before .before .before .before .before .before .before .before .truncate-state .ensures in
+    let k = c .before .before .before .tail-slot .ensures (decode (a .state .now)) (shaped (a .state .now) .slots) (table t) in
+    encoded-on (call s) (came s) _ (λ d. truncate-kept pagesPerFile d _ _) (encoded t) _ _ _ (u .1)
+    (truncate-done pagesPerFile (a .file) (a .n) (device s) _ _
+    (file-passed pagesPerFile (device s) _ _ (t .before .before .admit .result) (t .before .before .admit .ensures .0) _ (t .enum-told .given .1))
+    (u .0) (c .before .before .clear-tail .ensures (a .media .now) (a .sizes .now) _ (a .file) (k ∙ sym (ap (λ (x : CacheState). firstIndex (holds (a .file) (a .n / pageBytes)) (x .slots)) (u .0)))))
 
 pub truncate-spec : {M : Type 1} → statement M
 truncate-spec =

@@ -43,7 +43,7 @@ use Rattle.device.specs.declared.FileSizes.{FileSizes}
 use Rattle.device.specs.Sizes.{sizesAnswer, sizesAfter}
 use Rattle.writing.proofs.sizes_after.Symbol.{name as #writing·sizes-after}
 use Rattle.writing.proofs.sizes_answer.Symbol.{name as #writing·sizes-answer}
-use Rattle.writing.proofs.truncate_sizes.Key.{name as #cache·truncate-sizes}
+use Rattle.writing.proofs.truncate_sizes.Key.{name as #writing·truncate-sizes}
 use denote.Struct.Laws as LL
 use denote.Enum.Laws as EL
 use Rattle.answer.proofs.Answer as E
@@ -176,7 +176,7 @@ pub truncate-sizes-spec : {M : Type 1} → stated.statement M
 unfolding code.routine tablesOf
 truncate-sizes-spec 𝓤 H 𝓜 𝓖 𝓡 =
     entered 𝓤 H (tripleOf 𝓤 H (𝓖 .A) truncate.signature (truncate.spec 𝓤 H (𝓖 .A) (𝓜 .mem) (𝓡 .run)))
-    (tables 𝓤 H 𝓜 𝓡 code.env .C) (tables 𝓤 H 𝓜 𝓡 code.env .Λ) #cache·truncate-sizes code.function (code.unfolded 𝓤 H 𝓜 𝓡)
+    (tables 𝓤 H 𝓜 𝓡 code.env .C) (tables 𝓤 H 𝓜 𝓡 code.env .Λ) #writing·truncate-sizes code.function (code.unfolded 𝓤 H 𝓜 𝓡)
     (truncate-meets 𝓤 H (𝓖 .A) (givenOf 𝓤 H 𝓜 𝓖) (𝓜 .mem) (𝓡 .run) (tablesOf 𝓤 H 𝓜 (tables 𝓤 H 𝓜 𝓡 code.env))
     (cited 𝓤 H (SizesOf 𝓤 H (𝓖 .A) (𝓜 .mem) (𝓡 .run)) 𝓜 𝓡 code.env #writing·sizes-after sizesof-def.routine code.calls-writing·sizes-after (sizesof-thm.met 𝓤 H 𝓜 𝓖 𝓡))
     (cited 𝓤 H (AnswerOf 𝓤 H (𝓖 .A) (𝓜 .mem) (𝓡 .run)) 𝓜 𝓡 code.env #writing·sizes-answer answerof-def.routine code.calls-writing·sizes-answer (answerof-thm.met 𝓤 H 𝓜 𝓖 𝓡)))
