@@ -4,9 +4,9 @@
 //
 // An answer is one word, 65,536 × number + count. Number 0 is done, so a done call answers its count.
 use answer::Answer;
-use cache::FileSizes;
-use cache::Outcome;
-use cache::Span;
+use device::FileSizes;
+use device::Outcome;
+use device::Span;
 ghost use mathlib.Core.Path.{_≡_};
 ghost use mathlib.Core.List.{List};
 ghost use Prim.Native.Nat.{ℕ, _<_};
@@ -69,7 +69,7 @@ pub extern "C" fn boxstore_down(state: &mut [u8]) -> u32
     if state.len() != state_bytes::STATE_BYTES {
         return SHAPE;
     }
-    state_bytes::encode(cache::down_state(), state);
+    state_bytes::encode(cache_state::down_state(), state);
     0
 }
 
@@ -88,7 +88,7 @@ pub extern "C" fn boxstore_format(
         return SHAPE;
     }
     let came = state_bytes::decode(state);
-    let outcome = cache::format(media, sizes, came, budget);
+    let outcome = writeback::format(media, sizes, came, budget);
     finish(state, outcome)
 }
 
@@ -107,7 +107,7 @@ pub extern "C" fn boxstore_mount(
         return SHAPE;
     }
     let came = state_bytes::decode(state);
-    let outcome = cache::mount(media, sizes, came, budget);
+    let outcome = writeback::mount(media, sizes, came, budget);
     finish(state, outcome)
 }
 
@@ -128,8 +128,9 @@ pub extern "C" fn boxstore_read(
     if state.len() != state_bytes::STATE_BYTES {
         return SHAPE;
     }
-    let came = state_bytes::decode(state);
-    answer_word(cache::read(media, sizes, frames, came, file, position, buffer))
+    answer_word(reading::read(
+        media, sizes, frames, state, file, position, buffer,
+    ))
 }
 
 // Write: puts the bytes into cached pages, ascending, and counts them.
@@ -149,9 +150,7 @@ pub extern "C" fn boxstore_write(
     if state.len() != state_bytes::STATE_BYTES {
         return SHAPE;
     }
-    let came = state_bytes::decode(state);
-    let outcome = cache::write(media, sizes, frames, came, file, position, bytes);
-    finish(state, outcome)
+    answer_word(writing::write(media, sizes, frames, state, file, position, bytes))
 }
 
 // Truncate: the file has n bytes after it; the count is 0.
@@ -170,9 +169,7 @@ pub extern "C" fn boxstore_truncate(
     if state.len() != state_bytes::STATE_BYTES {
         return SHAPE;
     }
-    let came = state_bytes::decode(state);
-    let outcome = cache::truncate(media, sizes, frames, came, file, n);
-    finish(state, outcome)
+    answer_word(writing::truncate(media, sizes, frames, state, file, n))
 }
 
 // Sync: stores a file, and counts the media writes.
@@ -191,9 +188,7 @@ pub extern "C" fn boxstore_sync(
     if state.len() != state_bytes::STATE_BYTES {
         return SHAPE;
     }
-    let came = state_bytes::decode(state);
-    let outcome = cache::sync(media, sizes, frames, came, file, budget);
-    finish(state, outcome)
+    answer_word(writeback::sync(media, sizes, frames, state, file, budget))
 }
 
 // The count of a look: from the position to the end of its page or to the logical size, the nearer.
@@ -211,8 +206,7 @@ pub extern "C" fn boxstore_look_count(
     if state.len() != state_bytes::STATE_BYTES {
         return SHAPE;
     }
-    let came = state_bytes::decode(state);
-    answer_word(cache::look_count(media, sizes, frames, came, file, position))
+    answer_word(reading::look_count(media, sizes, frames, state, file, position))
 }
 
 // Where a part lies, as a word.
@@ -243,8 +237,7 @@ pub extern "C" fn boxstore_look(
     if state.len() != state_bytes::STATE_BYTES {
         return 0;
     }
-    let came = state_bytes::decode(state);
-    span_word(cache::look_span(media, sizes, frames, came, file, position))
+    span_word(reading::look_span(media, sizes, frames, state, file, position))
 }
 
 // The truncate rule on the sizes of one file: logical size, floor and stored size.
@@ -260,11 +253,11 @@ pub extern "C" fn boxstore_truncate_sizes(sizes: &mut [u32], n: usize, greatest:
         floor: sizes[1],
         stored: sizes[2],
     };
-    let after = cache::sizes_after(came, n, greatest);
+    let after = writing::sizes_after(came, n, greatest);
     sizes[0] = after.logical;
     sizes[1] = after.floor;
     sizes[2] = after.stored;
-    answer_word(cache::sizes_answer(came, n, greatest))
+    answer_word(writing::sizes_answer(came, n, greatest))
 }
 
 // PAGE by itself.

@@ -1,0 +1,53 @@
+-- `cache::write` meets its contract: the bytes of the state, the call on them, and the state that they say.
+use mathlib.Core.Path.{_≡_, _∙_}
+use Rattle.media.specs.Geometry.{pagesPerFile}
+use Rattle.media.specs.Write.{mediaOf}
+use Rattle.scan.proofs.Loops.{length-mapped}
+use Rattle.device.specs.Writing.{write}
+use Rattle.state_bytes.specs.Inverse.{Shaped}
+use Rattle.state_bytes.proofs.OnState.{back-on, write-kept, write-shaped}
+use borrow.Author.Needs.{needs}
+use Rattle.cache.proofs.write.Statement.{statement}
+use Rattle.cache.proofs.write.Tie as tie
+
+-- the lengths of the arrays
+shaped : (c : tie.Start) → Shaped (c .args .cache)
+shaped c = record { slots = search (needs, length-mapped); logical = search needs; floor = search needs }
+
+bytes-of-requires : tie.Need-bytes-of-requires
+bytes-of-requires c κs = search needs
+
+slice-aggregate-write : tie.Need-slice-aggregate-write
+slice-aggregate-write c = search needs
+
+write-requires : tie.Need-write-requires
+write-requires c κs = search needs
+
+slice-aggregate-decode : tie.Need-slice-aggregate-decode
+slice-aggregate-decode c = search needs
+
+decode-requires : tie.Need-decode-requires
+decode-requires c κs = search needs
+
+same-length : tie.Need-same-length
+same-length c = search needs
+
+returns : tie.Need-returns
+returns c =
+    let s = c .before .before .before .before .before .before .before .before .before .before .before .before .before in
+    let w = c .before .before .before .before .before in
+    rw (c .decode .ensures)
+    (back-on (write pagesPerFile (s .args .file) (s .args .position) (s .args .bytes .now)) (λ d. write-kept pagesPerFile d _ _ _) (λ d. write-shaped pagesPerFile d _ _ _) (mediaOf (s .args .media .now) (s .args .sizes .now)) (s .args .frames .now) (s .args .cache) (shaped s) _ _ _ _
+    (rw (c .before .before .before .before .before .before .before .before .bytes-of .ensures) at (w .write .ensures)))
+
+pub write-spec : {M : Type 1} → statement M
+write-spec =
+    tie.close
+    (tie.spec
+    bytes-of-requires
+    slice-aggregate-write
+    write-requires
+    slice-aggregate-decode
+    decode-requires
+    same-length
+    returns)
