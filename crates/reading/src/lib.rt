@@ -9,7 +9,9 @@ ghost use mathlib.Core.Bool.{true};
 ghost use mathlib.Core.List.{List};
 ghost use Prim.Native.Nat.{_+_, _≤_, _<_, _^_, ℕ, _/_, _%_};
 ghost use lib.ListN.{length, getD};
-ghost use Rattle.answer.specs.Coded.{coded};
+ghost use lib.Dec.{leb};
+ghost use Rattle.answer.specs.Coded.{coded, done};
+ghost use Rattle.answer.specs.Admission.{firstRefusal};
 ghost use Rattle.memory.specs.Bytes.{overwrite};
 ghost use Rattle.media.specs.Geometry.{files, fileBytes, mediaBytes, pageBytes, pagesPerFile};
 ghost use Rattle.media.specs.Write.{mediaOf};
@@ -18,11 +20,36 @@ ghost use Rattle.device.specs.declared.CacheState.{CacheState};
 ghost use Rattle.device.specs.Device.{deviceOf, slotCount, framesBytes, holds};
 ghost use Rattle.device.specs.Sound.{isSound};
 ghost use Rattle.device.specs.Current.{currentBytes};
-ghost use Rattle.device.specs.Admission.{give};
+ghost use Rattle.device.specs.Admission.{give, fileTests};
 ghost use Rattle.device.specs.Reading.{read};
 ghost use Rattle.device.specs.Looking.{toPageEnd, lookCount, lookSpan};
 ghost use Rattle.state_bytes.specs.Encoding.{decode};
-ghost use Rattle.cache_state.specs.Tables.{slotTable};
+ghost use Rattle.cache_state.specs.Tables.{slotTable, tableAfter};
+
+// The refusals of a call at a position of a file, in their order. Where none applies, the table has the slot of each page.
+fn admit_at(
+    media: &[u8],
+    sizes: &[u32],
+    frames: &[u8],
+    state: &[u8],
+    file: usize,
+    position: usize,
+    slots: &mut [u8; cache_state::TABLE],
+) -> Answer
+    ensures { λ r. ⌜ (coded r ≡ firstRefusal (fileTests pagesPerFile (deviceOf (mediaOf (now (media .entry)) (now (sizes .entry))) (now (frames .entry)) (decode (now (state .entry)))) file (leb position (fileBytes pagesPerFile))) (done 0))
+        × (now (slots .exit) ≡ tableAfter (coded r) ((decode (now (state .entry))) .slots)) ⌝ }
+{
+    let greatest = PAGE_BYTES * PAGES_PER_FILE;
+    cache_state::admit(
+        media,
+        sizes,
+        frames,
+        state,
+        file,
+        position <= greatest,
+        slots,
+    )
+}
 
 // The current bytes of a file from `at` on, within one page, whose slot is k, fill the buffer. The file has this floor.
 fn read_page(
@@ -102,17 +129,8 @@ pub fn read(
     ensures { λ r. ⌜ give (coded r) (now (buffer .exit))
         ≡ read pagesPerFile file position (now (buffer .entry)) (deviceOf (mediaOf (now (media .entry)) (now (sizes .entry))) (now (frames .entry)) (decode (now (state .entry)))) ⌝ }
 {
-    let greatest = PAGE_BYTES * PAGES_PER_FILE;
     let mut slots = [0u8; cache_state::TABLE];
-    let admission = cache_state::admit(
-        media,
-        sizes,
-        frames,
-        state,
-        file,
-        position <= greatest,
-        &mut slots,
-    );
+    let admission = admit_at(media, sizes, frames, state, file, position, &mut slots);
     match admission {
         Answer::Refused(refusal) => Answer::Refused(refusal),
         Answer::Done(_) => {
@@ -160,17 +178,8 @@ pub fn look_span(
 ) -> Span
     ensures { λ r. ⌜ r ≡ lookSpan pagesPerFile file position (deviceOf (mediaOf (now (media .entry)) (now (sizes .entry))) (now (frames .entry)) (decode (now (state .entry)))) ⌝ }
 {
-    let greatest = PAGE_BYTES * PAGES_PER_FILE;
     let mut slots = [0u8; cache_state::TABLE];
-    let admission = cache_state::admit(
-        media,
-        sizes,
-        frames,
-        state,
-        file,
-        position <= greatest,
-        &mut slots,
-    );
+    let admission = admit_at(media, sizes, frames, state, file, position, &mut slots);
     match admission {
         Answer::Refused(_) => Span {
             cached: false,
@@ -209,17 +218,8 @@ pub fn look_count(
 ) -> Answer
     ensures { λ r. ⌜ coded r ≡ lookCount pagesPerFile file position (deviceOf (mediaOf (now (media .entry)) (now (sizes .entry))) (now (frames .entry)) (decode (now (state .entry)))) ⌝ }
 {
-    let greatest = PAGE_BYTES * PAGES_PER_FILE;
     let mut slots = [0u8; cache_state::TABLE];
-    let admission = cache_state::admit(
-        media,
-        sizes,
-        frames,
-        state,
-        file,
-        position <= greatest,
-        &mut slots,
-    );
+    let admission = admit_at(media, sizes, frames, state, file, position, &mut slots);
     match admission {
         Answer::Refused(refusal) => Answer::Refused(refusal),
         Answer::Done(_) => {

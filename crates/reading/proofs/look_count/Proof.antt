@@ -1,4 +1,4 @@
--- `reading::look_count` meets its contract: refused as `admit` says, or counted.
+-- `reading::look_count` meets its contract: refused as `admit_at` says, or counted.
 use mathlib.Core.Path.{_∙_, ap}
 use Prim.Native.Nat.{ℕ}
 use borrow.Author.Needs.{needs}
@@ -15,11 +15,8 @@ use Rattle.reading.proofs.look_count.Tie as tie
 abbrev device : tie.Start → Device
 device c = deviceOf (mediaOf (c .args .media .now) (c .args .sizes .now)) (c .args .frames .now) (decode (c .args .state .now))
 
-mul-greatest : tie.Need-mul-greatest
-mul-greatest c = search needs
-
-admit-requires : tie.Need-admit-requires
-admit-requires c κs = search needs
+admit-at-requires : tie.Need-admit-at-requires
+admit-at-requires c κs = search needs
 
 enum-known-admission : tie.Need-enum-known-admission
 enum-known-admission c = search needs
@@ -41,7 +38,7 @@ returns c =
     let b = c .before .before .before in
     let s = b .before .before .before .before .before .before in
     let x = c .before .admission .given .0 .0 in
-    count-refused pagesPerFile (s .args .file) (s .args .position) (device s) x (file-refused pagesPerFile (device s) _ _ (b .admit .result) (b .admit .ensures .0) x (c .before .admission .given .1))
+    count-refused pagesPerFile (s .args .file) (s .args .position) (device s) x (file-refused pagesPerFile (device s) _ _ (b .admit-at .result) (b .admit-at .ensures .0) x (c .before .admission .given .1))
 
 returns-2 : tie.Need-returns-2
 returns-2 c =
@@ -49,15 +46,14 @@ returns-2 c =
     let t = l .before in
     let b = t .before .before in
     let s = b .before .before .before .before .before .before in
-    count-done pagesPerFile (s .args .file) (s .args .position) (device s) _ (file-passed pagesPerFile (device s) _ _ (b .admit .result) (b .admit .ensures .0) _ (t .enum-told .given .1))
+    count-done pagesPerFile (s .args .file) (s .args .position) (device s) _ (file-passed pagesPerFile (device s) _ _ (b .admit-at .result) (b .admit-at .ensures .0) _ (t .enum-told .given .1))
     (c .to-page-end .ensures ∙ ap (λ (n : ℕ). toPageEnd (s .args .position) n) (l .logical-at .ensures))
 
 pub look-count-spec : {M : Type 1} → statement M
 look-count-spec =
     tie.close
     (tie.spec
-    mul-greatest
-    admit-requires
+    admit-at-requires
     enum-known-admission
     enum-told
     logical-at-requires

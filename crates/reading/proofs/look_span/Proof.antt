@@ -1,4 +1,4 @@
--- `reading::look_span` meets its contract: nothing where `admit` refuses, or a part of the frames or of the media.
+-- `reading::look_span` meets its contract: nothing where `admit_at` refuses, or a part of the frames or of the media.
 use mathlib.Core.Path.{_≡_, _∙_, ap}
 use Prim.Native.Nat.{ℕ, _/_, _≤_}
 use native.Mathlib.Omega.{arith}
@@ -23,9 +23,9 @@ device c = deviceOf (mediaOf (c .args .media .now) (c .args .sizes .now)) (c .ar
 abbrev start : tie.After-enum-told2 → tie.Start
 start c = c .before .before .before .before .before .before .before .before
 
--- what `admit` has tested
+-- what `admit_at` has tested
 ready : (c : tie.After-enum-told2) → Admitted pagesPerFile (device (start c)) (start c .args .file) (leb (start c .args .position) (fileBytes pagesPerFile))
-ready c = file-ready pagesPerFile (device (start c)) _ _ (c .before .before .admit .result) (c .before .before .admit .ensures .0) _ (c .enum-told2 .given .1)
+ready c = file-ready pagesPerFile (device (start c)) _ _ (c .before .before .admit-at .result) (c .before .before .admit-at .ensures .0) _ (c .enum-told2 .given .1)
 
 in-limits : (c : tie.After-enum-told2) → start c .args .position ≤ fileBytes pagesPerFile
 in-limits c = leb-true _ _ (ready c .in-range)
@@ -35,13 +35,10 @@ slot-is : (c : tie.After-slot-of) → c .slot-of .result ≡ slotOf (device (sta
 slot-is c =
     let t = c .before .before in
     let bytes = start t .args .state .now in
-    c .slot-of .ensures (start t .args .sizes .now) (decode bytes) (table-is (t .before .before .admit .result) _ (decode bytes .slots) _ (t .enum-told2 .given .1) (t .before .before .admit .ensures .1)) (ready t .sound) (shaped bytes .slots)
+    c .slot-of .ensures (start t .args .sizes .now) (decode bytes) (table-is (t .before .before .admit-at .result) _ (decode bytes .slots) _ (t .enum-told2 .given .1) (t .before .before .admit-at .ensures .1)) (ready t .sound) (shaped bytes .slots)
 
-mul-greatest : tie.Need-mul-greatest
-mul-greatest c = search needs
-
-admit-requires : tie.Need-admit-requires
-admit-requires c κs = search needs
+admit-at-requires : tie.Need-admit-at-requires
+admit-at-requires c κs = search needs
 
 enum-told : tie.Need-enum-told
 enum-told c = search needs
@@ -53,7 +50,7 @@ slot-of-requires : tie.Need-slot-of-requires
 slot-of-requires c κs =
     let t = c .before in
     let slots = decode (start t .args .state .now) .slots in
-    (ready t .file, table-most slots _ (shaped (start t .args .state .now) .slots) (table-is (t .before .before .admit .result) _ slots _ (t .enum-told2 .given .1) (t .before .before .admit .ensures .1)))
+    (ready t .file, table-most slots _ (shaped (start t .args .state .now) .slots) (table-is (t .before .before .admit-at .result) _ slots _ (t .enum-told2 .given .1) (t .before .before .admit-at .ensures .1)))
 
 logical-at-requires : tie.Need-logical-at-requires
 logical-at-requires c κs = search needs
@@ -61,11 +58,11 @@ logical-at-requires c κs = search needs
 cast-logical : tie.Need-cast-logical
 cast-logical c = search needs
 
-mul-t20 : tie.Need-mul-t20
-mul-t20 c = search needs
+mul-t18 : tie.Need-mul-t18
+mul-t18 c = search needs
 
-add-t22 : tie.Need-add-t22
-add-t22 c = search needs
+add-t20 : tie.Need-add-t20
+add-t20 c = search needs
 
 to-page-end-requires : tie.Need-to-page-end-requires
 to-page-end-requires c κs = search needs
@@ -76,7 +73,7 @@ returns c =
     let m = l .before .before in
     let t = m .before .before in
     let s = start t in
-    let h = file-passed pagesPerFile (device s) _ _ (t .before .before .admit .result) (t .before .before .admit .ensures .0) _ (t .enum-told2 .given .1) in
+    let h = file-passed pagesPerFile (device s) _ _ (t .before .before .admit-at .result) (t .before .before .admit-at .ensures .0) _ (t .enum-told2 .given .1) in
     span-cached pagesPerFile (s .args .file) (s .args .position) (device s) h _ (slot-is m) _ (omega arith)
     (c .to-page-end .ensures ∙ ap (λ (n : ℕ). toPageEnd (s .args .position) n) (l .logical-at .ensures))
 
@@ -86,14 +83,14 @@ floor-at-requires c κs = search needs
 cast-floor : tie.Need-cast-floor
 cast-floor c = search needs
 
-mul-t17 : tie.Need-mul-t17
-mul-t17 c = search needs
+mul-t15 : tie.Need-mul-t15
+mul-t15 c = search needs
 
-mul-t25 : tie.Need-mul-t25
-mul-t25 c = omega (arith, ready (c .before .before .before .before) .file)
+mul-t23 : tie.Need-mul-t23
+mul-t23 c = omega (arith, ready (c .before .before .before .before) .file)
 
-add-t26 : tie.Need-add-t26
-add-t26 c = omega (arith, ready (c .before .before .before .before) .file, in-limits (c .before .before .before .before))
+add-t24 : tie.Need-add-t24
+add-t24 c = omega (arith, ready (c .before .before .before .before) .file, in-limits (c .before .before .before .before))
 
 to-page-end-requires-2 : tie.Need-to-page-end-requires-2
 to-page-end-requires-2 c κs = search needs
@@ -104,7 +101,7 @@ returns-2 c =
     let s = b .before .before .before .before .before .before in
     let x = c .enum-told .given .0 .0 in
     span-refused pagesPerFile (s .args .file) (s .args .position) (device s) x
-    (file-refused pagesPerFile (device s) _ _ (b .admit .result) (b .admit .ensures .0) x (c .enum-told .given .1))
+    (file-refused pagesPerFile (device s) _ _ (b .admit-at .result) (b .admit-at .ensures .0) x (c .enum-told .given .1))
 
 returns-3 : tie.Need-returns-3
 unfolding fileStart
@@ -113,7 +110,7 @@ returns-3 c =
     let m = l .before .before in
     let t = m .before .before in
     let s = start t in
-    let h = file-passed pagesPerFile (device s) _ _ (t .before .before .admit .result) (t .before .before .admit .ensures .0) _ (t .enum-told2 .given .1) in
+    let h = file-passed pagesPerFile (device s) _ _ (t .before .before .admit-at .result) (t .before .before .admit-at .ensures .0) _ (t .enum-told2 .given .1) in
     span-media pagesPerFile (s .args .file) (s .args .position) (device s) h _ (slot-is m) _ (omega arith)
     (c .to-page-end2 .ensures ∙ ap (λ (n : ℕ). toPageEnd (s .args .position) n) (l .floor-at .ensures))
 
@@ -121,22 +118,21 @@ pub look-span-spec : {M : Type 1} → statement M
 look-span-spec =
     tie.close
     (tie.spec
-    mul-greatest
-    admit-requires
+    admit-at-requires
     enum-told
     enum-told-2
     slot-of-requires
     logical-at-requires
     cast-logical
-    mul-t20
-    add-t22
+    mul-t18
+    add-t20
     to-page-end-requires
     returns
     floor-at-requires
     cast-floor
-    mul-t17
-    mul-t25
-    add-t26
+    mul-t15
+    mul-t23
+    add-t24
     to-page-end-requires-2
     returns-2
     returns-3)

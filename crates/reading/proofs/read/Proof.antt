@@ -1,4 +1,4 @@
--- `reading::read` meets its contract: refused as `admit` says, or the current bytes.
+-- `reading::read` meets its contract: refused as `admit_at` says, or the current bytes.
 use mathlib.Core.Path.{_≡_}
 use Prim.Native.Nat.{_≤_}
 use native.Mathlib.Omega.{arith}
@@ -25,20 +25,17 @@ device c = deviceOf (mediaOf (c .args .media .now) (c .args .sizes .now)) (c .ar
 abbrev start : tie.After-enum-told → tie.Start
 start c = c .before .before .before .before .before .before .before .before .before
 
--- what `admit` has tested
+-- what `admit_at` has tested
 ready : (c : tie.After-enum-told) → Admitted pagesPerFile (device (start c)) (start c .args .file) (leb (start c .args .position) (fileBytes pagesPerFile))
 unfolding device
-ready c = file-ready pagesPerFile (device (start c)) _ _ (c .before .before .admit .result) (c .before .before .admit .ensures .0) _ (c .enum-told .given .1)
+ready c = file-ready pagesPerFile (device (start c)) _ _ (c .before .before .admit-at .result) (c .before .before .admit-at .ensures .0) _ (c .enum-told .given .1)
 
 -- the table of slots that it left
-table : (c : tie.After-enum-told) → c .before .before .admit .last .1 .1 .1 .1 .1 .1 .0 ≡ slotTable pagesPerFile (decode (start c .args .state .now) .slots)
-table c = table-is (c .before .before .admit .result) _ (decode (start c .args .state .now) .slots) _ (c .enum-told .given .1) (c .before .before .admit .ensures .1)
+table : (c : tie.After-enum-told) → c .before .before .admit-at .last .1 .1 .1 .1 .1 .1 .0 ≡ slotTable pagesPerFile (decode (start c .args .state .now) .slots)
+table c = table-is (c .before .before .admit-at .result) _ (decode (start c .args .state .now) .slots) _ (c .enum-told .given .1) (c .before .before .admit-at .ensures .1)
 
-mul-greatest : tie.Need-mul-greatest
-mul-greatest c = search needs
-
-admit-requires : tie.Need-admit-requires
-admit-requires c κs = search needs
+admit-at-requires : tie.Need-admit-at-requires
+admit-at-requires c κs = search needs
 
 enum-known-admission : tie.Need-enum-known-admission
 enum-known-admission c = search needs
@@ -80,7 +77,7 @@ returns c =
     let b = c .before .before .before in
     let s = b .before .before .before .before .before .before .before in
     let x = c .before .admission .given .0 .0 in
-    read-refused pagesPerFile (s .args .file) (s .args .position) (s .args .buffer .now) (device s) x (file-refused pagesPerFile (device s) _ _ (b .admit .result) (b .admit .ensures .0) x (c .before .admission .given .1))
+    read-refused pagesPerFile (s .args .file) (s .args .position) (s .args .buffer .now) (device s) x (file-refused pagesPerFile (device s) _ _ (b .admit-at .result) (b .admit-at .ensures .0) x (c .before .admission .given .1))
 
 same-length : tie.Need-same-length
 same-length c = search needs
@@ -95,15 +92,14 @@ returns-2 c =
     let s = start t in
     let b = t .before .before in
     read-done pagesPerFile (s .args .file) (s .args .position) (s .args .buffer .now) (device s) (n .min .result) _
-    (file-passed pagesPerFile (device s) _ _ (b .admit .result) (b .admit .ensures .0) _ (t .enum-told .given .1))
+    (file-passed pagesPerFile (device s) _ _ (b .admit-at .result) (b .admit-at .ensures .0) _ (t .enum-told .given .1))
     (omega arith) (p .read-pages .ensures (s .args .sizes .now) (decode (s .args .state .now)) (table t) (f .floor-at .ensures))
 
 pub read-spec : {M : Type 1} → statement M
 read-spec =
     tie.close
     (tie.spec
-    mul-greatest
-    admit-requires
+    admit-at-requires
     enum-known-admission
     enum-told
     logical-at-requires
