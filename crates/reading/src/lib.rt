@@ -187,16 +187,16 @@ pub fn look_span(
             count: 0,
         },
         Answer::Done(_) => {
+            let logical = state_bytes::logical_at(state, file) as usize;
+            let floor = state_bytes::floor_at(state, file) as usize;
             let k = slot_of(&slots, file, position / PAGE_BYTES);
             if k < SLOTS {
-                let logical = state_bytes::logical_at(state, file) as usize;
                 return Span {
                     cached: true,
                     from: PAGE_BYTES * k + position % PAGE_BYTES,
                     count: to_page_end(position, logical),
                 };
             }
-            let floor = state_bytes::floor_at(state, file) as usize;
             Span {
                 cached: false,
                 from: file * (PAGE_BYTES * PAGES_PER_FILE) + position,

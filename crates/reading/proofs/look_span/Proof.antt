@@ -30,10 +30,13 @@ ready c = file-ready pagesPerFile (device (start c)) _ _ (c .before .before .adm
 in-limits : (c : tie.After-enum-told2) → start c .args .position ≤ fileBytes pagesPerFile
 in-limits c = leb-true _ _ (ready c .in-range)
 
+abbrev told : tie.After-slot-of → tie.After-enum-told2
+told c = c .before .before .before .before
+
 -- the slot of the page
-slot-is : (c : tie.After-slot-of) → c .slot-of .result ≡ slotOf (device (start (c .before .before))) (start (c .before .before) .args .file) (start (c .before .before) .args .position / pageBytes)
+slot-is : (c : tie.After-slot-of) → c .slot-of .result ≡ slotOf (device (start (told c))) (start (told c) .args .file) (start (told c) .args .position / pageBytes)
 slot-is c =
-    let t = c .before .before in
+    let t = told c in
     let bytes = start t .args .state .now in
     c .slot-of .ensures (start t .args .sizes .now) (decode bytes) (table-is (t .before .before .admit-at .result) _ (decode bytes .slots) _ (t .enum-told2 .given .1) (t .before .before .admit-at .ensures .1)) (ready t .sound) (shaped bytes .slots)
 
@@ -46,17 +49,23 @@ enum-told c = search needs
 enum-told-2 : tie.Need-enum-told-2
 enum-told-2 c = search needs
 
-slot-of-requires : tie.Need-slot-of-requires
-slot-of-requires c κs =
-    let t = c .before in
-    let slots = decode (start t .args .state .now) .slots in
-    (ready t .file, table-most slots _ (shaped (start t .args .state .now) .slots) (table-is (t .before .before .admit-at .result) _ slots _ (t .enum-told2 .given .1) (t .before .before .admit-at .ensures .1)))
-
 logical-at-requires : tie.Need-logical-at-requires
 logical-at-requires c κs = search needs
 
 cast-logical : tie.Need-cast-logical
 cast-logical c = search needs
+
+floor-at-requires : tie.Need-floor-at-requires
+floor-at-requires c κs = search needs
+
+cast-floor : tie.Need-cast-floor
+cast-floor c = search needs
+
+slot-of-requires : tie.Need-slot-of-requires
+slot-of-requires c κs =
+    let t = c .before .before .before in
+    let slots = decode (start t .args .state .now) .slots in
+    (ready t .file, table-most slots _ (shaped (start t .args .state .now) .slots) (table-is (t .before .before .admit-at .result) _ slots _ (t .enum-told2 .given .1) (t .before .before .admit-at .ensures .1)))
 
 mul-t18 : tie.Need-mul-t18
 mul-t18 c = search needs
@@ -69,28 +78,22 @@ to-page-end-requires c κs = search needs
 
 returns : tie.Need-returns
 returns c =
-    let l = c .before in
-    let m = l .before .before in
-    let t = m .before .before in
+    let m = c .before .before in
+    let l = m .before .before .before in
+    let t = told m in
     let s = start t in
     let h = file-passed pagesPerFile (device s) _ _ (t .before .before .admit-at .result) (t .before .before .admit-at .ensures .0) _ (t .enum-told2 .given .1) in
     span-cached pagesPerFile (s .args .file) (s .args .position) (device s) h _ (slot-is m) _ (omega arith)
     (c .to-page-end .ensures ∙ ap (λ (n : ℕ). toPageEnd (s .args .position) n) (l .logical-at .ensures))
 
-floor-at-requires : tie.Need-floor-at-requires
-floor-at-requires c κs = search needs
+mul-t16 : tie.Need-mul-t16
+mul-t16 c = search needs
 
-cast-floor : tie.Need-cast-floor
-cast-floor c = search needs
+mul-t22 : tie.Need-mul-t22
+mul-t22 c = omega (arith, ready (told (c .before)) .file)
 
-mul-t15 : tie.Need-mul-t15
-mul-t15 c = search needs
-
-mul-t23 : tie.Need-mul-t23
-mul-t23 c = omega (arith, ready (c .before .before .before .before) .file)
-
-add-t24 : tie.Need-add-t24
-add-t24 c = omega (arith, ready (c .before .before .before .before) .file, in-limits (c .before .before .before .before))
+add-t23 : tie.Need-add-t23
+add-t23 c = omega (arith, ready (told (c .before)) .file, in-limits (told (c .before)))
 
 to-page-end-requires-2 : tie.Need-to-page-end-requires-2
 to-page-end-requires-2 c κs = search needs
@@ -106,9 +109,9 @@ returns-2 c =
 returns-3 : tie.Need-returns-3
 unfolding fileStart
 returns-3 c =
-    let l = c .before in
-    let m = l .before .before in
-    let t = m .before .before in
+    let m = c .before .before in
+    let l = m .before .before in
+    let t = told m in
     let s = start t in
     let h = file-passed pagesPerFile (device s) _ _ (t .before .before .admit-at .result) (t .before .before .admit-at .ensures .0) _ (t .enum-told2 .given .1) in
     span-media pagesPerFile (s .args .file) (s .args .position) (device s) h _ (slot-is m) _ (omega arith)
@@ -121,18 +124,18 @@ look-span-spec =
     admit-at-requires
     enum-told
     enum-told-2
-    slot-of-requires
     logical-at-requires
     cast-logical
+    floor-at-requires
+    cast-floor
+    slot-of-requires
     mul-t18
     add-t20
     to-page-end-requires
     returns
-    floor-at-requires
-    cast-floor
-    mul-t15
-    mul-t23
-    add-t24
+    mul-t16
+    mul-t22
+    add-t23
     to-page-end-requires-2
     returns-2
     returns-3)
