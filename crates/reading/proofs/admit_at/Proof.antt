@@ -10,7 +10,7 @@ admit-requires : tie.Need-admit-requires
 admit-requires c κs = search needs
 
 returns : tie.Need-returns
-returns c = c .admit .ensures
+returns c = (c .admit .ensures .0, c .admit .ensures .1)
 
 pub admit-at-spec : {M : Type 1} → statement M
 admit-at-spec = tie.close (tie.spec mul-greatest admit-requires returns)

@@ -1,27 +1,44 @@
 -- `reading::look_span` meets its contract: nothing where `admit_at` refuses, or a part of the frames or of the media.
-use mathlib.Core.Path.{_≡_}
-use Prim.Native.Nat.{_≤_}
+use mathlib.Core.Path.{_≡_, _∙_, ap}
+use Prim.Native.Nat.{ℕ, _/_, _≤_}
 use native.Mathlib.Omega.{arith}
 use lib.Dec.{leb}
 use borrow.Author.Tests.{leb-true}
 use borrow.Author.Needs.{needs}
-use Rattle.media.specs.Geometry.{pagesPerFile, fileBytes, fileStart}
+use Rattle.media.specs.Geometry.{pageBytes, pagesPerFile, fileBytes, fileStart}
 use Rattle.media.specs.Write.{mediaOf}
-use Rattle.device.specs.Device.{Device, deviceOf}
+use Rattle.device.specs.Device.{Device, deviceOf, slotOf}
+use Rattle.device.specs.Looking.{toPageEnd}
 use Rattle.device.proofs.Admission.{Admitted, file-passed, file-refused, file-ready}
 use Rattle.device.proofs.Looking.{span-refused, span-cached, span-media}
+use Rattle.state_bytes.specs.Encoding.{decode}
+use Rattle.state_bytes.proofs.InPlace.{shaped}
+use Rattle.reading.proofs.Slots.{table-is, table-most}
 use Rattle.reading.proofs.look_span.Statement.{statement}
 use Rattle.reading.proofs.look_span.Tie as tie
 
 abbrev device : tie.Start → Device
-device c = deviceOf (mediaOf (c .args .media .now) (c .args .sizes .now)) (c .args .frames .now) (c .args .cache)
+device c = deviceOf (mediaOf (c .args .media .now) (c .args .sizes .now)) (c .args .frames .now) (decode (c .args .state .now))
+
+abbrev start : tie.After-enum-told2 → tie.Start
+start c = c .before .before .before .before .before .before .before .before
 
 -- what `admit_at` has tested
-ready : (c : tie.After-enum-told2) → Admitted pagesPerFile (device (c .before .before .before .before .before .before)) (c .before .before .before .before .before .before .args .file) (leb (c .before .before .before .before .before .before .args .position) (fileBytes pagesPerFile))
-ready c = file-ready pagesPerFile (device (c .before .before .before .before .before .before)) _ _ (c .before .before .admit-at .result) (c .before .before .admit-at .ensures) _ (c .enum-told2 .given .1)
+ready : (c : tie.After-enum-told2) → Admitted pagesPerFile (device (start c)) (start c .args .file) (leb (start c .args .position) (fileBytes pagesPerFile))
+ready c = file-ready pagesPerFile (device (start c)) _ _ (c .before .before .admit-at .result) (c .before .before .admit-at .ensures .0) _ (c .enum-told2 .given .1)
 
-in-limits : (c : tie.After-enum-told2) → c .before .before .before .before .before .before .args .position ≤ fileBytes pagesPerFile
+in-limits : (c : tie.After-enum-told2) → start c .args .position ≤ fileBytes pagesPerFile
 in-limits c = leb-true _ _ (ready c .in-range)
+
+abbrev told : tie.After-slot-of → tie.After-enum-told2
+told c = c .before .before .before .before
+
+-- the slot of the page
+slot-is : (c : tie.After-slot-of) → c .slot-of .result ≡ slotOf (device (start (told c))) (start (told c) .args .file) (start (told c) .args .position / pageBytes)
+slot-is c =
+    let t = told c in
+    let bytes = start t .args .state .now in
+    c .slot-of .ensures (start t .args .sizes .now) (decode bytes) (table-is (t .before .before .admit-at .result) _ (decode bytes .slots) _ (t .enum-told2 .given .1) (t .before .before .admit-at .ensures .1)) (ready t .sound) (shaped bytes .slots)
 
 admit-at-requires : tie.Need-admit-at-requires
 admit-at-requires c κs = search needs
@@ -32,52 +49,51 @@ enum-told c = search needs
 enum-told-2 : tie.Need-enum-told-2
 enum-told-2 c = search needs
 
+logical-at-requires : tie.Need-logical-at-requires
+logical-at-requires c κs = search needs
+
+cast-logical : tie.Need-cast-logical
+cast-logical c = search needs
+
+floor-at-requires : tie.Need-floor-at-requires
+floor-at-requires c κs = search needs
+
+cast-floor : tie.Need-cast-floor
+cast-floor c = search needs
+
 slot-of-requires : tie.Need-slot-of-requires
-slot-of-requires c κs = search needs
+slot-of-requires c κs =
+    let t = c .before .before .before in
+    let slots = decode (start t .args .state .now) .slots in
+    (ready t .file, table-most slots _ (shaped (start t .args .state .now) .slots) (table-is (t .before .before .admit-at .result) _ slots _ (t .enum-told2 .given .1) (t .before .before .admit-at .ensures .1)))
 
-mul-t14 : tie.Need-mul-t14
-mul-t14 c = search needs
+mul-t18 : tie.Need-mul-t18
+mul-t18 c = search needs
 
-add-t16 : tie.Need-add-t16
-add-t16 c = search needs
-
-mul-to-page-end : tie.Need-mul-to-page-end
-mul-to-page-end c = omega (arith, ready (c .before .before .before) .file)
-
-array-read-to-page-end : tie.Need-array-read-to-page-end
-array-read-to-page-end c = ready (c .before .before .before) .file
-
-cast-to-page-end : tie.Need-cast-to-page-end
-cast-to-page-end c = search needs
+add-t20 : tie.Need-add-t20
+add-t20 c = search needs
 
 to-page-end-requires : tie.Need-to-page-end-requires
 to-page-end-requires c κs = search needs
 
 returns : tie.Need-returns
 returns c =
-    let m = c .before .before .before in
-    let t = c .before .before .before .before in
-    let s = c .before .before .before .before .before .before .before .before .before .before in
-    let h = file-passed pagesPerFile (device s) _ _ (t .before .before .admit-at .result) (t .before .before .admit-at .ensures) _ (t .enum-told2 .given .1) in
-    span-cached pagesPerFile (s .args .file) (s .args .position) (device s) h _ (m .slot-of .ensures) _ (omega arith) (c .to-page-end .ensures)
+    let m = c .before .before in
+    let l = m .before .before .before in
+    let t = told m in
+    let s = start t in
+    let h = file-passed pagesPerFile (device s) _ _ (t .before .before .admit-at .result) (t .before .before .admit-at .ensures .0) _ (t .enum-told2 .given .1) in
+    span-cached pagesPerFile (s .args .file) (s .args .position) (device s) h _ (slot-is m) _ (omega arith)
+    (c .to-page-end .ensures ∙ ap (λ (n : ℕ). toPageEnd (s .args .position) n) (l .logical-at .ensures))
 
-mul-t12 : tie.Need-mul-t12
-mul-t12 c = search needs
+mul-t16 : tie.Need-mul-t16
+mul-t16 c = search needs
 
-mul-t23 : tie.Need-mul-t23
-mul-t23 c = omega (arith, ready (c .before .before .before) .file)
+mul-t22 : tie.Need-mul-t22
+mul-t22 c = omega (arith, ready (told (c .before)) .file)
 
-add-t24 : tie.Need-add-t24
-add-t24 c = omega (arith, ready (c .before .before .before) .file, in-limits (c .before .before .before))
-
-mul-to-page-end-2 : tie.Need-mul-to-page-end-2
-mul-to-page-end-2 c = omega (arith, ready (c .before .before .before) .file)
-
-array-read-to-page-end-2 : tie.Need-array-read-to-page-end-2
-array-read-to-page-end-2 c = ready (c .before .before .before) .file
-
-cast-to-page-end-2 : tie.Need-cast-to-page-end-2
-cast-to-page-end-2 c = search needs
+add-t23 : tie.Need-add-t23
+add-t23 c = omega (arith, ready (told (c .before)) .file, in-limits (told (c .before)))
 
 to-page-end-requires-2 : tie.Need-to-page-end-requires-2
 to-page-end-requires-2 c κs = search needs
@@ -85,19 +101,21 @@ to-page-end-requires-2 c κs = search needs
 returns-2 : tie.Need-returns-2
 returns-2 c =
     let b = c .before .before in
-    let s = c .before .before .before .before .before .before in
+    let s = b .before .before .before .before .before .before in
     let x = c .enum-told .given .0 .0 in
     span-refused pagesPerFile (s .args .file) (s .args .position) (device s) x
-    (file-refused pagesPerFile (device s) _ _ (b .admit-at .result) (b .admit-at .ensures) x (c .enum-told .given .1))
+    (file-refused pagesPerFile (device s) _ _ (b .admit-at .result) (b .admit-at .ensures .0) x (c .enum-told .given .1))
 
 returns-3 : tie.Need-returns-3
 unfolding fileStart
 returns-3 c =
-    let m = c .before .before .before in
-    let t = c .before .before .before .before in
-    let s = c .before .before .before .before .before .before .before .before .before .before in
-    let h = file-passed pagesPerFile (device s) _ _ (t .before .before .admit-at .result) (t .before .before .admit-at .ensures) _ (t .enum-told2 .given .1) in
-    span-media pagesPerFile (s .args .file) (s .args .position) (device s) h _ (m .slot-of .ensures) _ (omega arith) (c .to-page-end2 .ensures)
+    let m = c .before .before in
+    let l = m .before .before in
+    let t = told m in
+    let s = start t in
+    let h = file-passed pagesPerFile (device s) _ _ (t .before .before .admit-at .result) (t .before .before .admit-at .ensures .0) _ (t .enum-told2 .given .1) in
+    span-media pagesPerFile (s .args .file) (s .args .position) (device s) h _ (slot-is m) _ (omega arith)
+    (c .to-page-end2 .ensures ∙ ap (λ (n : ℕ). toPageEnd (s .args .position) n) (l .floor-at .ensures))
 
 pub look-span-spec : {M : Type 1} → statement M
 look-span-spec =
@@ -106,20 +124,18 @@ look-span-spec =
     admit-at-requires
     enum-told
     enum-told-2
+    logical-at-requires
+    cast-logical
+    floor-at-requires
+    cast-floor
     slot-of-requires
-    mul-t14
-    add-t16
-    mul-to-page-end
-    array-read-to-page-end
-    cast-to-page-end
+    mul-t18
+    add-t20
     to-page-end-requires
     returns
-    mul-t12
-    mul-t23
-    add-t24
-    mul-to-page-end-2
-    array-read-to-page-end-2
-    cast-to-page-end-2
+    mul-t16
+    mul-t22
+    add-t23
     to-page-end-requires-2
     returns-2
     returns-3)

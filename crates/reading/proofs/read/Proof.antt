@@ -1,4 +1,5 @@
 -- `reading::read` meets its contract: refused as `admit_at` says, or the current bytes.
+use mathlib.Core.Path.{_≡_}
 use Prim.Native.Nat.{_≤_}
 use native.Mathlib.Omega.{arith}
 use lib.Dec.{leb}
@@ -10,17 +11,28 @@ use Rattle.device.specs.Device.{Device, deviceOf}
 use Rattle.device.proofs.Admission.{Admitted, file-passed, file-refused, file-ready}
 use Rattle.device.proofs.Sound.{sound-sizes}
 use Rattle.device.proofs.Reading.{read-refused, read-done}
+use Rattle.state_bytes.specs.Encoding.{decode}
+use Rattle.state_bytes.proofs.InPlace.{shaped}
+use Rattle.cache_state.specs.Tables.{slotTable}
+use Rattle.reading.proofs.Slots.{table-is, table-most}
 use Rattle.reading.proofs.read.Statement.{statement}
 use Rattle.reading.proofs.read.Tie as tie
 
 -- the device at the start
 device : tie.Start → Device
-device c = deviceOf (mediaOf (c .args .media .now) (c .args .sizes .now)) (c .args .frames .now) (c .args .cache)
+device c = deviceOf (mediaOf (c .args .media .now) (c .args .sizes .now)) (c .args .frames .now) (decode (c .args .state .now))
+
+abbrev start : tie.After-enum-told → tie.Start
+start c = c .before .before .before .before .before .before .before .before .before
 
 -- what `admit_at` has tested
-ready : (c : tie.After-enum-told) → Admitted pagesPerFile (device (c .before .before .before .before .before .before .before)) (c .before .before .before .before .before .before .before .args .file) (leb (c .before .before .before .before .before .before .before .args .position) (fileBytes pagesPerFile))
+ready : (c : tie.After-enum-told) → Admitted pagesPerFile (device (start c)) (start c .args .file) (leb (start c .args .position) (fileBytes pagesPerFile))
 unfolding device
-ready c = file-ready pagesPerFile (device (c .before .before .before .before .before .before .before)) _ _ (c .before .before .admit-at .result) (c .before .before .admit-at .ensures) _ (c .enum-told .given .1)
+ready c = file-ready pagesPerFile (device (start c)) _ _ (c .before .before .admit-at .result) (c .before .before .admit-at .ensures .0) _ (c .enum-told .given .1)
+
+-- the table of slots that it left
+table : (c : tie.After-enum-told) → c .before .before .admit-at .last .1 .1 .1 .1 .1 .1 .0 ≡ slotTable pagesPerFile (decode (start c .args .state .now) .slots)
+table c = table-is (c .before .before .admit-at .result) _ (decode (start c .args .state .now) .slots) _ (c .enum-told .given .1) (c .before .before .admit-at .ensures .1)
 
 admit-at-requires : tie.Need-admit-at-requires
 admit-at-requires c κs = search needs
@@ -31,14 +43,17 @@ enum-known-admission c = search needs
 enum-told : tie.Need-enum-told
 enum-told c = search needs
 
-mul-saturating-sub : tie.Need-mul-saturating-sub
-mul-saturating-sub c = omega (arith, ready (c .before) .file)
+logical-at-requires : tie.Need-logical-at-requires
+logical-at-requires c κs = search needs
 
-array-read-saturating-sub : tie.Need-array-read-saturating-sub
-array-read-saturating-sub c = ready (c .before) .file
+cast-logical : tie.Need-cast-logical
+cast-logical c = search needs
 
-cast-saturating-sub : tie.Need-cast-saturating-sub
-cast-saturating-sub c = search needs
+floor-at-requires : tie.Need-floor-at-requires
+floor-at-requires c κs = search needs
+
+cast-floor : tie.Need-cast-floor
+cast-floor c = search needs
 
 saturating-sub-requires : tie.Need-saturating-sub-requires
 saturating-sub-requires c κs = search needs
@@ -49,19 +64,20 @@ min-requires c κs = search needs
 read-pages-requires : tie.Need-read-pages-requires
 unfolding device
 read-pages-requires c κs =
-    let t = c .before .before .before .before in
+    let t = c .before .before .before .before .before .before in
+    let bytes = start t .args .state .now in
     let ok = ready t in
     let s = sound-sizes pagesPerFile _ _ _ (ok .sound) (ok .file) in
-    let r : t .before .before .before .before .before .before .before .args .position ≤ fileBytes pagesPerFile = leb-true _ _ (ok .in-range) in
-    (search needs, ok .bytes, ok .frames, ok .file, omega arith, omega arith)
+    let r : start t .args .position ≤ fileBytes pagesPerFile = leb-true _ _ (ok .in-range) in
+    (ok .bytes, ok .frames, ok .file, omega arith, omega arith, table-most (decode bytes .slots) _ (shaped bytes .slots) (table t))
 
 returns : tie.Need-returns
 unfolding device
 returns c =
     let b = c .before .before .before in
-    let s = b .before .before .before .before .before in
+    let s = b .before .before .before .before .before .before .before in
     let x = c .before .admission .given .0 .0 in
-    read-refused pagesPerFile (s .args .file) (s .args .position) (s .args .buffer .now) (device s) x (file-refused pagesPerFile (device s) _ _ (b .admit-at .result) (b .admit-at .ensures) x (c .before .admission .given .1))
+    read-refused pagesPerFile (s .args .file) (s .args .position) (s .args .buffer .now) (device s) x (file-refused pagesPerFile (device s) _ _ (b .admit-at .result) (b .admit-at .ensures .0) x (c .before .admission .given .1))
 
 same-length : tie.Need-same-length
 same-length c = search needs
@@ -69,12 +85,15 @@ same-length c = search needs
 returns-2 : tie.Need-returns-2
 unfolding device
 returns-2 c =
-    let n = c .before .before .before .before in
-    let t = n .before .before .before in
-    let s = t .before .before .before .before .before .before .before in
+    let p = c .before .before in
+    let n = p .before .before .before in
+    let f = n .before .before in
+    let t = f .before .before in
+    let s = start t in
+    let b = t .before .before in
     read-done pagesPerFile (s .args .file) (s .args .position) (s .args .buffer .now) (device s) (n .min .result) _
-    (file-passed pagesPerFile (device s) _ _ (t .before .before .admit-at .result) (t .before .before .admit-at .ensures) _ (t .enum-told .given .1))
-    (omega arith) (c .before .before .read-pages .ensures (s .args .sizes .now))
+    (file-passed pagesPerFile (device s) _ _ (b .admit-at .result) (b .admit-at .ensures .0) _ (t .enum-told .given .1))
+    (omega arith) (p .read-pages .ensures (s .args .sizes .now) (decode (s .args .state .now)) (table t) (f .floor-at .ensures))
 
 pub read-spec : {M : Type 1} → statement M
 read-spec =
@@ -83,9 +102,10 @@ read-spec =
     admit-at-requires
     enum-known-admission
     enum-told
-    mul-saturating-sub
-    array-read-saturating-sub
-    cast-saturating-sub
+    logical-at-requires
+    cast-logical
+    floor-at-requires
+    cast-floor
     saturating-sub-requires
     min-requires
     read-pages-requires

@@ -2,7 +2,7 @@
 use mathlib.Core.Path.{_≡_, _∙_, ap}
 use Prim.Native.Nat.{ℕ, _+_, _-_, _%_, _≤_, min}
 use native.Mathlib.Omega.{arith}
-use lib.ListN.{length, getD}
+use lib.ListN.{length}
 use borrow.Author.Needs.{needs}
 use Rattle.memory.specs.Bytes.{zeros, part, overwrite}
 use Rattle.memory.proofs.Bytes.{length-part, overwrite-whole}
@@ -15,7 +15,7 @@ use Rattle.reading.proofs.read_page.Statement.{statement}
 use Rattle.reading.proofs.read_page.Tie as tie
 
 -- the file ends within the media
-ends : (c : tie.After-floors) → fileStart (c .before .before .before .before .before .args .pages) (c .before .before .before .before .before .args .file) + fileBytes (c .before .before .before .before .before .args .pages) ≤ mediaBytes (c .before .before .before .before .before .args .pages)
+ends : (c : tie.Start) → fileStart (c .args .pages) (c .args .file) + fileBytes (c .args .pages) ≤ mediaBytes (c .args .pages)
 ends c = file-end _ _ (omega arith)
 
 mul-first : tie.Need-mul-first
@@ -44,20 +44,11 @@ mul-from c = search needs
 
 mul-from-2 : tie.Need-mul-from-2
 unfolding fileStart
-mul-from-2 c = omega (arith, ends c)
+mul-from-2 c = omega (arith, ends (c .before .before .before .before))
 
 add-from : tie.Need-add-from
 unfolding fileStart
-add-from c = omega (arith, ends c)
-
-mul-saturating-sub : tie.Need-mul-saturating-sub
-mul-saturating-sub c = search needs
-
-array-read-saturating-sub : tie.Need-array-read-saturating-sub
-array-read-saturating-sub c = search needs
-
-cast-saturating-sub : tie.Need-cast-saturating-sub
-cast-saturating-sub c = search needs
+add-from c = omega (arith, ends (c .before .before .before .before))
 
 saturating-sub-requires : tie.Need-saturating-sub-requires
 saturating-sub-requires c κs = search needs
@@ -67,7 +58,7 @@ min-requires c κs = search needs
 
 add-end : tie.Need-add-end
 unfolding fileStart
-add-end c = omega (arith, ends (c .before .before))
+add-end c = omega (arith, ends (c .before .before .before .before .before .before))
 
 sub-copy-padded : tie.Need-sub-copy-padded
 sub-copy-padded c = search needs
@@ -77,7 +68,7 @@ part-copy-padded-start c = search needs
 
 part-copy-padded-end : tie.Need-part-copy-padded-end
 unfolding fileStart
-part-copy-padded-end c = omega (arith, ends (c .before .before .before))
+part-copy-padded-end c = omega (arith, ends (c .before .before .before .before .before .before .before))
 
 copy-padded-requires : tie.Need-copy-padded-requires
 copy-padded-requires c κs = search needs
@@ -94,11 +85,11 @@ returns c =
     let first : ℕ = frameStart (a .k) + a .at % pageBytes in
     let e : first + n - first ≡ n = omega arith in
     let l : length (part (a .frames .now) first n) ≡ n = length-part (a .frames .now) first n (omega arith) in
-    λ stored.
+    λ stored d e-k e-floor.
     p .copy .ensures
     ∙ ap (λ (j : ℕ). overwrite (a .buffer .now) 0 (part (a .frames .now) first j)) e
     ∙ overwrite-whole (a .buffer .now) (part (a .frames .now) first n) l
-    ∙ bytes-cached (a .pages) (deviceOf (mediaOf (a .media .now) stored) (a .frames .now) (a .cache)) (a .file) (a .at) n (a .k) (s .pre .6) (omega arith) (omega arith) (omega arith)
+    ∙ bytes-cached (a .pages) (deviceOf (mediaOf (a .media .now) stored) (a .frames .now) d) (a .file) (a .at) n (a .k) e-k (omega arith) (omega arith) (omega arith)
 
 same-length-2 : tie.Need-same-length-2
 same-length-2 c = search needs
@@ -108,15 +99,15 @@ unfolding fileStart
 returns-2 c =
     let p = c .before .before in
     let m = p .before .before .before in
-    let s = m .before .before .before .before .before .before .before in
+    let s = m .before .before .before .before .before .before in
     let a = s .args in
     let n : ℕ = length (a .buffer .now) in
     let from : ℕ = fileStart (a .pages) (a .file) + a .at in
-    let e : from + m .min .result - from ≡ min n (getD (a .cache .floor) (a .file) 0 - a .at) = omega arith in
-    λ stored.
+    let e : from + m .min .result - from ≡ min n (a .floor - a .at) = omega arith in
+    λ stored d e-k e-floor.
     p .copy-padded .ensures
-    ∙ ap (λ (j : ℕ). overwrite (zeros n) 0 (part (a .media .now) from j)) e
-    ∙ bytes-media (a .pages) (deviceOf (mediaOf (a .media .now) stored) (a .frames .now) (a .cache)) (a .file) (a .at) n (a .k) (s .pre .6) (omega arith) (omega arith) (omega arith) (omega arith) (omega arith)
+    ∙ ap (λ (j : ℕ). overwrite (zeros n) 0 (part (a .media .now) from j)) (e ∙ ap (λ (j : ℕ). min n (j - a .at)) e-floor)
+    ∙ bytes-media (a .pages) (deviceOf (mediaOf (a .media .now) stored) (a .frames .now) d) (a .file) (a .at) n (a .k) e-k (omega arith) (omega arith) (omega arith) (omega arith) (omega arith)
 
 pub read-page-spec : {M : Type 1} → statement M
 read-page-spec =
@@ -132,9 +123,6 @@ read-page-spec =
     mul-from
     mul-from-2
     add-from
-    mul-saturating-sub
-    array-read-saturating-sub
-    cast-saturating-sub
     saturating-sub-requires
     min-requires
     add-end
