@@ -1,3 +1,3 @@
-mod Places
+mod Pages
 mod Trimming
 mod Zeros
