@@ -1,3 +1,4 @@
+mod Ends
 mod Pages
 mod Trimming
 mod Zeros

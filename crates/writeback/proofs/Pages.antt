@@ -38,7 +38,7 @@ module _ (budget : ℕ) (d : Device) (f : ℕ) (before : ℕ) (m : Media) where
   pub pages-next : (p i n k : ℕ) (c e : Media) (frames table : List ℕ) → f < files → p < pagesPerFile → i ≡ p + 1 → d .frames ≡ frames → table ≡ slotTable pagesPerFile (d .cache .slots)
       → Spent pagesPerFile budget m before n (pageWrites d f p 0) c
       → Spent pagesPerFile budget c n k
-        (writeIf (ltb (getD table (pagesPerFile * f + p) 0) slotCount) (page f p (part frames (frameStart (getD table (pagesPerFile * f + p) 0)) pageBytes))) e
+      (writeIf (ltb (getD table (pagesPerFile * f + p) 0) slotCount) (page f p (part frames (frameStart (getD table (pagesPerFile * f + p) 0)) pageBytes))) e
       → Spent pagesPerFile budget m before k (pageWrites d f i 0) e
   unfolding pageWrite
   pages-next p i n k c e frames table hf hp ei ef et x y =

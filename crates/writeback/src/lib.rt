@@ -166,7 +166,15 @@ fn sync_writes(
     let stored = sizes[file] as usize;
     let trims = trim_if(media, sizes, file, floor, floor < stored, budget, 0);
     let writes = write_pages(media, frames, slots, file, budget, trims);
-    size_if(media, sizes, file, logical, logical != floor, budget, writes)
+    size_if(
+        media,
+        sizes,
+        file,
+        logical,
+        logical != floor,
+        budget,
+        writes,
+    )
 }
 
 // The state after a sync of a file: its pages are free, and its floor is its logical size.

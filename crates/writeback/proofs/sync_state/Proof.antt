@@ -34,10 +34,11 @@ returns c =
     let s = l .before .before .before in
     let a = s .args in
     let freed = freed-changed (a .file) 0 (a .state .now) (s .pre) (x .free-pages-from .last .0) (x .free-pages-from .ensures) in
-    let after = floor-changed (x .free-pages-from .last .0) (freed .1) (a .file) (l .logical-at .result) (y .set-floor .last .0) (y .set-floor .ensures) in
-    (after .0 ∙ rw (freed .0, l .logical-at .ensures)
-    (ap (λ (slots : List Slot). withFloor (withSlots (decode (a .state .now)) slots) (a .file) (getD (decode (a .state .now) .logical) (a .file) 0)) (free-all (a .file) (decode (a .state .now) .slots))),
-    after .1)
+    let after = floor-changed (x .free-pages-from .last .0) (freed .1) (a .file) (l .logical-at .result) (y .set-floor .last .0) (y .set-floor .ensures) in (
+      after .0 ∙ rw (freed .0, l .logical-at .ensures)
+          (ap (λ (slots : List Slot). withFloor (withSlots (decode (a .state .now)) slots) (a .file) (getD (decode (a .state .now) .logical) (a .file) 0)) (free-all (a .file) (decode (a .state .now) .slots))),
+      after .1,
+    )
 
 pub sync-state-spec : {M : Type 1} → statement M
 sync-state-spec =

@@ -42,9 +42,13 @@ write-pages-requires : tie.Need-write-pages-requires
 write-pages-requires c κs =
     let t = c .before .before .before .before .before in
     let s = t .before .before .before .before .before .before .before .before .before .before in
-    let a = s .args in
-    (omega arith, omega arith, omega arith, omega (arith, one-more _ _ (t .trim-if .ensures)),
-    rw (s .pre .7) (table-fits (decode (a .state .now) .slots) (shaped (a .state .now) .slots) (a .file) (omega arith)))
+    let a = s .args in (
+      omega arith,
+      omega arith,
+      omega arith,
+      omega (arith, one-more _ _ (t .trim-if .ensures)),
+      rw (s .pre .7) (table-fits (decode (a .state .now) .slots) (shaped (a .state .now) .slots) (a .file) (omega arith)),
+    )
 
 size-if-requires : tie.Need-size-if-requires
 size-if-requires c κs =

@@ -60,13 +60,14 @@ loop-again : tie.Need-loop-again Inv-loop μ-loop
 loop-again c =
     let p = c .before .before in
     let l = p .before .before .before .before in
-    let a = l .before .before .before .args in
-    (omega arith,
-    omega (arith, l .loop .inv .1, one-more _ _ (p .page-if .ensures [])),
-    omega (arith, p .page-if .kept .0, l .loop .inv .2),
-    λ stored d ef et.
-    pages-next (a .budget) d (a .file) (a .before) (mediaOf (a .media .now) stored) (pagesPerFile - l .loop .left) (pagesPerFile - (l .loop .left - 1)) (l .loop .needed) (p .page-if .result) _ _ (a .frames .now) (a .slots .now) (omega arith) (omega arith) (omega arith) ef et
-    (l .loop .inv .3 stored d ef et) (p .page-if .ensures stored))
+    let a = l .before .before .before .args in (
+      omega arith,
+      omega (arith, l .loop .inv .1, one-more _ _ (p .page-if .ensures [])),
+      omega (arith, p .page-if .kept .0, l .loop .inv .2),
+      λ stored d ef et.
+          pages-next (a .budget) d (a .file) (a .before) (mediaOf (a .media .now) stored) (pagesPerFile - l .loop .left) (pagesPerFile - (l .loop .left - 1)) (l .loop .needed) (p .page-if .result) _ _ (a .frames .now) (a .slots .now) (omega arith) (omega arith) (omega arith) ef et
+          (l .loop .inv .3 stored d ef et) (p .page-if .ensures stored),
+    )
 
 same-length : tie.Need-same-length Inv-loop μ-loop
 same-length c = search needs
