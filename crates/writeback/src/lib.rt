@@ -164,17 +164,10 @@ fn sync_writes(
     let logical = state_bytes::logical_at(state, file) as usize;
     let floor = state_bytes::floor_at(state, file) as usize;
     let stored = sizes[file] as usize;
+    let resized = logical != floor;
     let trims = trim_if(media, sizes, file, floor, floor < stored, budget, 0);
     let writes = write_pages(media, frames, slots, file, budget, trims);
-    size_if(
-        media,
-        sizes,
-        file,
-        logical,
-        logical != floor,
-        budget,
-        writes,
-    )
+    size_if(media, sizes, file, logical, resized, budget, writes)
 }
 
 // The state after a sync of a file: its pages are free, and its floor is its logical size.
