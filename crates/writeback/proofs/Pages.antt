@@ -2,11 +2,14 @@
 use mathlib.Core.Path.{_≡_, refl}
 use mathlib.Core.Bool.{Bool, not}
 use mathlib.Core.List.{List, _++_}
-use Prim.Native.Nat.{ℕ, _+_, _*_, _≤_, _<_}
+use Prim.Native.Nat.{ℕ, _+_, _*_, _/_, _%_, _≤_, _<_}
 use native.Mathlib.Omega.{arith}
 use lib.Dec.{eqb, ltb}
-use lib.ListN.{length, getD}
+use lib.ListN.{length, getD, List·getD-eq-default}
+use mir.Syntax.{w64}
+use mir.Val.{Fits}
 use Rattle.memory.specs.Bytes.{part}
+use Rattle.memory.proofs.Cases.{split-lt}
 use Rattle.media.specs.Geometry.{files, pagesPerFile, pageBytes}
 use Rattle.media.specs.Write.{Media, MediaWrite, sizeAt}
 use Rattle.media.specs.Write.MediaWrite.{page, size, trim}
@@ -18,11 +21,23 @@ use Rattle.device.specs.Syncing.{trimWrites, pageWrite, pageWrites, sizeWrites,
 use Rattle.device.proofs.Plan.{at-most-one, spent-none, spent-join}
 use Rattle.device.proofs.Syncing.{pages-more}
 use Rattle.cache_state.specs.Tables.{slotTable}
-use Rattle.cache_state.proofs.Pass.{table-slot}
+use Rattle.cache_state.proofs.Pass.{length-table, table-slot}
 
 -- the table of a state with as many slots as there are
-pub table-fits : (slots : List Slot) → length slots ≡ slotCount → (f : ℕ) → f < files → (p : ℕ) → p < pagesPerFile → getD (slotTable pagesPerFile slots) (pagesPerFile * f + p) 0 ≤ slotCount
-table-fits slots e f hf p hp = omega (arith, e, table-slot slots f p hf hp, first-le (holds f p) slots)
+pub table-fits : (slots : List Slot) → length slots ≡ slotCount → (i : ℕ) → getD (slotTable pagesPerFile slots) i 0 ≤ slotCount
+table-fits slots e i =
+    split-lt i (files * pagesPerFile)
+    (λ h.
+    let q : pagesPerFile * (i / pagesPerFile) + i % pagesPerFile ≡ i = omega arith in
+    let at = rw q at (table-slot slots (i / pagesPerFile) (i % pagesPerFile) (omega arith) (omega arith)) in
+    omega (arith, e, at, first-le (holds (i / pagesPerFile) (i % pagesPerFile)) slots))
+    (λ h.
+    let l : length (slotTable pagesPerFile slots) ≤ i = omega (arith, length-table pagesPerFile slots) in
+    omega (arith, List·getD-eq-default (slotTable pagesPerFile slots) 0 l))
+
+-- an entry that a slot can have fits a word
+pub entry-fits : (table : List ℕ) → ((i : ℕ) → getD table i 0 ≤ slotCount) → (i : ℕ) → Fits w64 (getD table i 0)
+entry-fits table h i = omega (arith, h i)
 
 -- one write at most is one more at most
 pub one-more : {P budget n k : ℕ} {m c : Media} (b : Bool) (w : MediaWrite) → Spent P budget m n k (writeIf b w) c → k ≤ n + 1

@@ -9,7 +9,7 @@ use device::Outcome;
 ghost use mathlib.Core.Path.{_≡_};
 ghost use mathlib.Core.Bool.{not, _||_};
 ghost use mathlib.Core.List.{List};
-ghost use Prim.Native.Nat.{ℕ, _+_, _*_, _≤_, _<_, _^_};
+ghost use Prim.Native.Nat.{ℕ, _+_, _≤_, _<_, _^_};
 ghost use lib.ListN.{length, getD};
 ghost use lib.Dec.{eqb, ltb};
 ghost use Rattle.answer.specs.Coded.{coded};
@@ -102,7 +102,7 @@ fn write_pages(
     before: usize,
 ) -> usize
     requires { ⌜ (length (now media) ≡ mediaBytes pagesPerFile) × (length (now frames) ≡ framesBytes) × (file < files) × (before ≤ 1)
-        × ((p : ℕ) → p < pagesPerFile → getD (now slots) (pagesPerFile * file + p) 0 ≤ slotCount) ⌝ }
+        × ((i : ℕ) → getD (now slots) i 0 ≤ slotCount) ⌝ }
     ensures { λ r. ⌜ (r ≤ before + pagesPerFile)
         × ((stored : List ℕ) (d : Device) → d .frames ≡ now (frames .entry) → now (slots .entry) ≡ slotTable pagesPerFile (d .cache .slots)
         → Spent pagesPerFile budget (mediaOf (now (media .entry)) stored) before r (pageWrites d file pagesPerFile 0) (mediaOf (now (media .exit)) stored)) ⌝ }

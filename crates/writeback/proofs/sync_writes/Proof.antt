@@ -47,7 +47,7 @@ write-pages-requires c κs =
       omega arith,
       omega arith,
       omega (arith, one-more _ _ (t .trim-if .ensures)),
-      rw (s .pre .7) (table-fits (decode (a .state .now) .slots) (shaped (a .state .now) .slots) (a .file) (omega arith)),
+      rw (s .pre .7) (table-fits (decode (a .state .now) .slots) (shaped (a .state .now) .slots)),
     )
 
 size-if-requires : tie.Need-size-if-requires

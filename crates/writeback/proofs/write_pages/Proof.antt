@@ -11,7 +11,7 @@ use Rattle.device.specs.Device.{Device}
 use Rattle.device.specs.Plan.{Spent}
 use Rattle.device.specs.Syncing.{pageWrites}
 use Rattle.cache_state.specs.Tables.{slotTable}
-use Rattle.writeback.proofs.Pages.{one-more, pages-none, pages-next}
+use Rattle.writeback.proofs.Pages.{entry-fits, one-more, pages-none, pages-next}
 use Rattle.writeback.proofs.write_pages.Statement.{statement}
 use Rattle.writeback.proofs.write_pages.Tie as tie
 
@@ -42,10 +42,7 @@ element-copy-out-k : tie.Need-element-copy-out-k Inv-loop μ-loop
 element-copy-out-k c = search needs
 
 cast-k : tie.Need-cast-k Inv-loop μ-loop
-cast-k c =
-    let l = c .before .before in
-    let s = l .before .before .before in
-    omega (arith, s .pre .4 (pagesPerFile - l .loop .left) (omega arith))
+cast-k c = let s = c .before .before .before .before .before in entry-fits (s .args .slots .now) (s .pre .4) _
 
 page-if-requires : tie.Need-page-if-requires Inv-loop μ-loop
 page-if-requires c κs = search needs
