@@ -1,3 +1,4 @@
-mod Places
+mod Ends
+mod Pages
 mod Trimming
 mod Zeros

@@ -8,72 +8,24 @@ use device::CacheState;
 use device::Outcome;
 ghost use mathlib.Core.Path.{_≡_};
 ghost use mathlib.Core.Bool.{not, _||_};
-ghost use mathlib.Core.List.{List, []};
-ghost use Prim.Native.Nat.{ℕ, _≤_, _<_, _^_};
+ghost use mathlib.Core.List.{List};
+ghost use Prim.Native.Nat.{ℕ, _+_, _≤_, _<_, _^_};
 ghost use lib.ListN.{length, getD};
-ghost use lib.Dec.{eqb};
+ghost use lib.Dec.{eqb, ltb};
 ghost use Rattle.answer.specs.Coded.{coded};
 ghost use Rattle.memory.specs.Bytes.{part};
 ghost use Rattle.media.specs.Geometry.{files, pagesPerFile, pageBytes, fileBytes, mediaBytes};
 ghost use Rattle.media.specs.Write.{Media, mediaOf, sizeAt, apply};
-ghost use Rattle.media.specs.Write.MediaWrite.{page, trim};
+ghost use Rattle.media.specs.Write.MediaWrite.{page, size, trim};
 ghost use Rattle.scan.specs.Scan.{every};
-ghost use Rattle.device.specs.Device.{deviceOf, slotCount, framesBytes, frameStart};
+ghost use Rattle.device.specs.Device.{Device, deviceOf, slotCount, framesBytes, frameStart};
 ghost use Rattle.device.specs.Admission.{give};
 ghost use Rattle.device.specs.Plan.{writeIf, budgeted, Spent};
-ghost use Rattle.device.specs.Syncing.{syncPlan, syncedState, sync};
+ghost use Rattle.device.specs.Syncing.{pageWrites, syncPlan, syncedState, sync};
 ghost use Rattle.device.specs.Mounting.{nonzeroFrom, mountPlan, mount, formatPlan, format};
-ghost use Rattle.cache_state.specs.Tables.{fileSlots};
-ghost use Rattle.writeback.specs.Planned.{syncPlace, plannedWrites, Allowed};
-
-// A media write of a sync: TRIM to a size, PAGE with the slot that has its bytes, SIZE, or none at this place.
-enum PlannedWrite {
-    Trim(usize),
-    Page(usize, usize),
-    Size(usize),
-    Nothing,
-}
-
-// The media write at a place of a sync's plan: 0 is the TRIM, 1 to `pages` are the pages, ascending, then comes the SIZE. The slot
-// of each page is told.
-fn planned_write(
-    sizes: &[u32],
-    cache: CacheState,
-    slots: [u8; media::PAGES_PER_FILE],
-    file: usize,
-    place: usize,
-    pages: usize,
-) -> PlannedWrite
-    requires { ⌜ (length (now sizes) ≡ files) × (file < files)
-        × (getD (cache .floor) file 0 ≤ getD (cache .logical) file 0) × (getD (cache .logical) file 0 ≤ fileBytes pages)
-        × (pages ≤ pagesPerFile) × (slots ≡ fileSlots pagesPerFile (cache .slots) file) ⌝ }
-    ensures { λ r. ⌜ ((frames : List ℕ) → plannedWrites frames file r ≡ syncPlace pages (deviceOf (mediaOf [] (now (sizes .entry))) frames cache) file place)
-        × Allowed pages (now (sizes .entry)) file r ⌝ }
-{
-    let logicals = cache.logical;
-    let floors = cache.floor;
-    let logical = logicals[file] as usize;
-    let floor = floors[file] as usize;
-    if place < 1 {
-        let stored = sizes[file] as usize;
-        if floor < stored {
-            return PlannedWrite::Trim(floor);
-        }
-        return PlannedWrite::Nothing;
-    }
-    if place <= pages {
-        let number = place - 1;
-        let k = slots[number] as usize;
-        if k < device::SLOTS {
-            return PlannedWrite::Page(number, k);
-        }
-        return PlannedWrite::Nothing;
-    }
-    if logical == floor {
-        return PlannedWrite::Nothing;
-    }
-    PlannedWrite::Size(logical)
-}
+ghost use Rattle.state_bytes.specs.Encoding.{decode};
+ghost use Rattle.state_bytes.specs.InPlace.{lent, IsEncoded, onState};
+ghost use Rattle.cache_state.specs.Tables.{slotTable};
 
 // TRIM, if it is wanted and the budget pays. The number of writes needed so far comes back, with this one.
 fn trim_if(
@@ -114,65 +66,147 @@ fn write_frame(media: &mut [u8], frames: &[u8], file: usize, number: usize, k: u
     media::write_page(&mut media[from..end], &frames[first..last]);
 }
 
-// One write of a plan, if the budget still pays. The number of writes needed so far comes back, with this one.
-fn carry_out(
+// PAGE from slot k, if there is such a slot and the budget pays. The number of writes needed so far comes back, with this one.
+fn page_if(
     media: &mut [u8],
-    sizes: &mut [u32],
     frames: &[u8],
     file: usize,
-    write: PlannedWrite,
+    number: usize,
+    k: usize,
     budget: usize,
     needed: usize,
 ) -> usize
-    requires { ⌜ (length (now media) ≡ mediaBytes pagesPerFile) × (length (now sizes) ≡ files) × (length (now frames) ≡ framesBytes)
-        × (file < files) × Allowed pagesPerFile (now sizes) file write × (needed < 2 ^ 32) ⌝ }
-    ensures { λ r. ⌜ Spent pagesPerFile budget (mediaOf (now (media .entry)) (now (sizes .entry))) needed r
-        (plannedWrites (now (frames .entry)) file write) (mediaOf (now (media .exit)) (now (sizes .exit))) ⌝ }
+    requires { ⌜ (length (now media) ≡ mediaBytes pagesPerFile) × (length (now frames) ≡ framesBytes) × (file < files)
+        × (number < pagesPerFile) × (needed < 2 ^ 32) ⌝ }
+    ensures { λ r. ⌜ ((stored : List ℕ) → Spent pagesPerFile budget (mediaOf (now (media .entry)) stored) needed r
+        (writeIf (ltb k slotCount) (page file number (part (now (frames .entry)) (frameStart k) pageBytes))) (mediaOf (now (media .exit)) stored)) ⌝ }
 {
-    match write {
-        PlannedWrite::Trim(n) => trim_if(media, sizes, file, n, true, budget, needed),
-        PlannedWrite::Page(number, k) => {
-            if needed < budget {
-                write_frame(media, frames, file, number, k, media::PAGES_PER_FILE);
-                return needed + 1;
-            }
-            needed + 1
+    if k < device::SLOTS {
+        if needed < budget {
+            write_frame(media, frames, file, number, k, media::PAGES_PER_FILE);
+            return needed + 1;
         }
-        PlannedWrite::Size(n) => {
-            if needed < budget {
-                media::write_size(media, sizes, file, n);
-                return needed + 1;
-            }
-            needed + 1
-        }
-        PlannedWrite::Nothing => needed,
+        return needed + 1;
     }
+    needed
 }
 
-// The writes of a sync, as many as the budget pays for. The number needed comes back.
+// The cached pages of a file, ascending, each if the budget pays. The table has their slots. The number of writes needed so far
+// comes back, with these.
+fn write_pages(
+    media: &mut [u8],
+    frames: &[u8],
+    slots: &[u8; cache_state::TABLE],
+    file: usize,
+    budget: usize,
+    before: usize,
+) -> usize
+    requires { ⌜ (length (now media) ≡ mediaBytes pagesPerFile) × (length (now frames) ≡ framesBytes) × (file < files) × (before ≤ 1)
+        × ((i : ℕ) → getD (now slots) i 0 ≤ slotCount) ⌝ }
+    ensures { λ r. ⌜ (r ≤ before + pagesPerFile)
+        × ((stored : List ℕ) (d : Device) → d .frames ≡ now (frames .entry) → now (slots .entry) ≡ slotTable pagesPerFile (d .cache .slots)
+        → Spent pagesPerFile budget (mediaOf (now (media .entry)) stored) before r (pageWrites d file pagesPerFile 0) (mediaOf (now (media .exit)) stored)) ⌝ }
+{
+    let mut needed = before;
+    let mut left = media::PAGES_PER_FILE;
+    while 0 < left {
+        let number = media::PAGES_PER_FILE - left;
+        let k = slots[media::PAGES_PER_FILE * file + number] as usize;
+        needed = page_if(media, frames, file, number, k, budget, needed);
+        left -= 1;
+    }
+    needed
+}
+
+// SIZE, if it is wanted and the budget pays. The number of writes needed so far comes back, with this one.
+fn size_if(
+    media: &[u8],
+    sizes: &mut [u32],
+    file: usize,
+    n: usize,
+    wanted: bool,
+    budget: usize,
+    needed: usize,
+) -> usize
+    requires { ⌜ (length (now media) ≡ mediaBytes pagesPerFile) × (length (now sizes) ≡ files) × (file < files)
+        × (n ≤ fileBytes pagesPerFile) × (needed < 2 ^ 32) ⌝ }
+    ensures { λ r. ⌜ Spent pagesPerFile budget (mediaOf (now (media .entry)) (now (sizes .entry))) needed r
+        (writeIf wanted (size file n)) (mediaOf (now (media .entry)) (now (sizes .exit))) ⌝ }
+{
+    if wanted {
+        if needed < budget {
+            media::write_size(media, sizes, file, n);
+            return needed + 1;
+        }
+        return needed + 1;
+    }
+    needed
+}
+
+// The writes of a sync, as many as the budget pays for: TRIM, the pages, SIZE. The number needed comes back.
 fn sync_writes(
     media: &mut [u8],
     sizes: &mut [u32],
     frames: &[u8],
-    cache: CacheState,
+    state: &[u8],
+    slots: &[u8; cache_state::TABLE],
     file: usize,
     budget: usize,
 ) -> usize
     requires { ⌜ (length (now media) ≡ mediaBytes pagesPerFile) × (length (now sizes) ≡ files) × (length (now frames) ≡ framesBytes) × (file < files)
-        × (getD (cache .floor) file 0 ≤ getD (cache .logical) file 0) × (getD (cache .logical) file 0 ≤ fileBytes pagesPerFile) ⌝ }
+        × (getD ((decode (now state)) .floor) file 0 ≤ getD (now sizes) file 0)
+        × (getD ((decode (now state)) .floor) file 0 ≤ getD ((decode (now state)) .logical) file 0)
+        × (getD ((decode (now state)) .logical) file 0 ≤ fileBytes pagesPerFile) × (now slots ≡ slotTable pagesPerFile ((decode (now state)) .slots)) ⌝ }
     ensures { λ r. ⌜ Spent pagesPerFile budget (mediaOf (now (media .entry)) (now (sizes .entry))) 0 r
-        (syncPlan pagesPerFile (deviceOf (mediaOf (now (media .entry)) (now (sizes .entry))) (now (frames .entry)) cache) file)
+        (syncPlan pagesPerFile (deviceOf (mediaOf (now (media .entry)) (now (sizes .entry))) (now (frames .entry)) (decode (now (state .entry)))) file)
         (mediaOf (now (media .exit)) (now (sizes .exit))) ⌝ }
 {
-    let slots = cache_state::file_slots(cache, file);
-    let mut needed = 0;
-    let mut place = 0;
-    while place < media::PAGES_PER_FILE + 2 {
-        let write = planned_write(sizes, cache, slots, file, place, media::PAGES_PER_FILE);
-        needed = carry_out(media, sizes, frames, file, write, budget, needed);
-        place += 1;
+    let logical = state_bytes::logical_at(state, file) as usize;
+    let floor = state_bytes::floor_at(state, file) as usize;
+    let stored = sizes[file] as usize;
+    let resized = logical != floor;
+    let trims = trim_if(media, sizes, file, floor, floor < stored, budget, 0);
+    let writes = write_pages(media, frames, slots, file, budget, trims);
+    size_if(media, sizes, file, logical, resized, budget, writes)
+}
+
+// The state after a sync of a file: its pages are free, and its floor is its logical size.
+fn sync_state(state: &mut [u8], file: usize)
+    requires { ⌜ IsEncoded (now state) ⌝ }
+    ensures { λ r. ⌜ (decode (now (state .exit)) ≡ syncedState (decode (now (state .entry))) file) × IsEncoded (now (state .exit)) ⌝ }
+{
+    let logical = state_bytes::logical_at(state, file);
+    cache_state::free_pages_from(state, file, 0);
+    state_bytes::set_floor(state, file, logical);
+}
+
+// Sync: stores a file. Its TRIM, its cached pages and its SIZE go to the media; after it its pages are free. A sync that is cut leaves
+// the device down.
+pub fn sync(
+    media: &mut [u8],
+    sizes: &mut [u32],
+    frames: &[u8],
+    state: &mut [u8],
+    file: usize,
+    budget: usize,
+) -> Answer
+    ensures { λ r. ⌜ give (coded r) (lent (mediaOf (now (media .exit)) (now (sizes .exit))) (now (frames .entry)) (now (state .exit)))
+        ≡ onState (sync pagesPerFile file budget) (lent (mediaOf (now (media .entry)) (now (sizes .entry))) (now (frames .entry)) (now (state .entry))) ⌝ }
+{
+    let mut slots = [0u8; cache_state::TABLE];
+    let admission = cache_state::admit(media, sizes, frames, state, file, true, &mut slots);
+    match admission {
+        Answer::Refused(refusal) => Answer::Refused(refusal),
+        Answer::Done(_) => {
+            let needed = sync_writes(media, sizes, frames, state, &slots, file, budget);
+            if budget < needed {
+                state_bytes::encode(cache_state::down_state(), state);
+                return Answer::Refused(Refusal::Cut(budget));
+            }
+            sync_state(state, file);
+            Answer::Done(needed)
+        }
     }
-    needed
 }
 
 // What a call gives that needed so many media writes: done with their number and this state; or CUT, which leaves the device
@@ -189,42 +223,6 @@ fn outcome(writes: usize, budget: usize, state: CacheState) -> Outcome
     Outcome {
         answer: Answer::Done(writes),
         cache: state,
-    }
-}
-
-// The state after a sync of a file.
-fn synced_state(cache: CacheState, file: usize) -> CacheState
-    requires { ⌜ file < files ⌝ }
-    ensures { λ r. ⌜ r ≡ syncedState cache file ⌝ }
-{
-    let sizes = cache.logical;
-    let mut next = cache_state::free_pages_from(cache, file, 0);
-    next.floor[file] = sizes[file];
-    next
-}
-
-// Sync: stores a file. Its TRIM, its cached pages and its SIZE go to the media; after it its pages are free.
-pub fn sync(
-    media: &mut [u8],
-    sizes: &mut [u32],
-    frames: &[u8],
-    cache: CacheState,
-    file: usize,
-    budget: usize,
-) -> Outcome
-    ensures { λ r. ⌜ give (coded (r .answer)) (deviceOf (mediaOf (now (media .exit)) (now (sizes .exit))) (now (frames .entry)) (r .cache))
-        ≡ sync pagesPerFile file budget (deviceOf (mediaOf (now (media .entry)) (now (sizes .entry))) (now (frames .entry)) cache) ⌝ }
-{
-    let admission = cache_state::admit(media, sizes, frames, cache, file, true);
-    match admission {
-        Answer::Refused(refusal) => Outcome {
-            answer: Answer::Refused(refusal),
-            cache,
-        },
-        Answer::Done(_) => {
-            let writes = sync_writes(media, sizes, frames, cache, file, budget);
-            outcome(writes, budget, synced_state(cache, file))
-        }
     }
 }
 

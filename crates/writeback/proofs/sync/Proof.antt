@@ -1,31 +1,37 @@
 -- `writeback::sync` meets its contract: the admission decides, then the budget.
-use mathlib.Core.Path.{_≡_, _∙_}
+use mathlib.Core.Path.{_≡_, sym, _∙_}
 use mathlib.Core.Bool.{true}
+use native.Mathlib.Omega.{arith}
 use borrow.Author.Needs.{needs}
 use Rattle.answer.proofs.Admission.{passed}
 use Rattle.media.specs.Geometry.{pagesPerFile}
 use Rattle.media.specs.Write.{mediaOf}
-use Rattle.device.specs.Device.{Device, deviceOf}
 use Rattle.device.specs.Admission.{fileTests}
-use Rattle.device.specs.Syncing.{syncPlan, sync}
 use Rattle.device.proofs.Sound.{sound-sizes}
-use Rattle.device.proofs.Admission.{Admitted, admit-refused, file-passed, file-refused, file-admitted}
-use Rattle.device.proofs.Plan.{plan-ends}
+use Rattle.device.proofs.Admission.{Admitted, file-passed, file-refused, file-admitted}
+use Rattle.state_bytes.specs.Encoding.{decode}
+use Rattle.state_bytes.specs.InPlace.{Lent, lent, deviceIn, IsEncoded}
+use Rattle.state_bytes.proofs.InPlace.{sound-length}
+use Rattle.cache_state.proofs.Soundness.{table-done}
+use Rattle.writeback.proofs.Ends.{refused-ends, cut-ends, done-ends}
 use Rattle.writeback.proofs.sync.Statement.{statement}
 use Rattle.writeback.proofs.sync.Tie as tie
 
-abbrev device : tie.Start → Device
-device s = deviceOf (mediaOf (s .args .media .now) (s .args .sizes .now)) (s .args .frames .now) (s .args .cache)
+abbrev device : tie.Start → Lent
+device s = lent (mediaOf (s .args .media .now) (s .args .sizes .now)) (s .args .frames .now) (s .args .state .now)
 
 abbrev start : tie.After-enum-told → tie.Start
-start c = c .before .before .before .before .before .before .before .before
+start c = c .before .before .before .before .before .before .before .before .before .before .before
 
 -- what `admit` has tested
-all : (c : tie.After-enum-told) → passed (fileTests pagesPerFile (device (start c)) (start c .args .file) true) ≡ true
-all c = file-passed pagesPerFile (device (start c)) _ true (c .before .before .admit .result) (c .before .before .admit .ensures) _ (c .enum-told .given .1)
+all : (c : tie.After-enum-told) → passed (fileTests pagesPerFile (deviceIn (device (start c))) (start c .args .file) true) ≡ true
+all c = file-passed pagesPerFile (deviceIn (device (start c))) _ true (c .before .before .admit .result) (c .before .before .admit .ensures .0) _ (c .enum-told .given .1)
 
-ready : (c : tie.After-enum-told) → Admitted pagesPerFile (device (start c)) (start c .args .file) true
-ready c = file-admitted pagesPerFile (device (start c)) _ true (all c)
+ready : (c : tie.After-enum-told) → Admitted pagesPerFile (deviceIn (device (start c))) (start c .args .file) true
+ready c = file-admitted pagesPerFile (deviceIn (device (start c))) _ true (all c)
+
+encoded-is : (c : tie.After-enum-told) → IsEncoded (start c .args .state .now)
+encoded-is c = c .before .before .admit .ensures .2 (rw (c .enum-told .given .1))
 
 admit-requires : tie.Need-admit-requires
 admit-requires c κs = search needs
@@ -38,15 +44,26 @@ enum-told c = search needs
 
 sync-writes-requires : tie.Need-sync-writes-requires
 sync-writes-requires c κs =
-    let ok = ready (c .before .before) in
-    let z = sound-sizes pagesPerFile _ _ _ (ok .sound) (ok .file) in
-    (ok .bytes, ok .sizes, ok .frames, ok .file, z .0, z .1)
+    let t = c .before .before .before .before in
+    let b = t .before .before in
+    let a = start t .args in
+    let ok = ready t in
+    let z = sound-sizes pagesPerFile _ _ _ (ok .sound) (ok .file) in (
+      ok .bytes,
+      ok .sizes,
+      ok .frames,
+      ok .file,
+      z .2,
+      z .0,
+      z .1,
+      b .admit .ensures .1 ∙ rw (t .enum-told .given .1) (sym (table-done _ (decode (a .state .now) .slots))),
+    )
 
-synced-state-requires : tie.Need-synced-state-requires
-synced-state-requires c κs = ready (c .before .before .before .before .before .before .before) .file
+down-state-requires : tie.Need-down-state-requires
+down-state-requires c κs = search needs
 
-outcome-requires : tie.Need-outcome-requires
-outcome-requires c κs = search needs
+encode-requires : tie.Need-encode-requires
+encode-requires c κs = search needs
 
 same-length : tie.Need-same-length
 same-length c = search needs
@@ -54,29 +71,54 @@ same-length c = search needs
 same-length-2 : tie.Need-same-length-2
 same-length-2 c = search needs
 
-returns : tie.Need-returns
-unfolding sync
-returns c =
-    let b = c .before .before .before in
-    let s = b .before .before .before .before .before .before in
-    let x = c .before .admission .given .0 .0 in
-    admit-refused (fileTests pagesPerFile (device s) (s .args .file) true) (device s) _ x (file-refused pagesPerFile (device s) (s .args .file) true (b .admit .result) (b .admit .ensures) x (c .before .admission .given .1))
-
 same-length-3 : tie.Need-same-length-3
 same-length-3 c = search needs
+
+returns : tie.Need-returns
+returns c =
+    let e = c .before .before in
+    let w = c .before .before .before .before .before .before .before .before .before .before in
+    let t = w .before .before .before .before .before in
+    let s = start t in
+    cut-ends pagesPerFile (s .args .file) (s .args .budget) (device s) (w .sync-writes .result) _ (w .sync-writes .ensures) (all t) _ (omega arith)
+    (sound-length pagesPerFile (s .args .sizes .now) (s .args .state .now) (ready t .sound)) (rw (e .before .before .down-state .ensures) at (e .encode .ensures))
+
+sync-state-requires : tie.Need-sync-state-requires
+sync-state-requires c κs = encoded-is (c .before .before .before .before .before .before .before .before .before .before .before)
 
 same-length-4 : tie.Need-same-length-4
 same-length-4 c = search needs
 
+same-length-5 : tie.Need-same-length-5
+same-length-5 c = search needs
+
+same-length-6 : tie.Need-same-length-6
+same-length-6 c = search needs
+
 returns-2 : tie.Need-returns-2
-unfolding sync
 returns-2 c =
-    let y = c .before in
-    let w = y .before .before .before .before .before in
-    let t = w .before .before .before in
+    let b = c .before .before .before in
+    let s = b .before .before .before .before .before .before .before .before .before in
+    let x = c .before .admission .given .0 .0 in
+    refused-ends pagesPerFile (s .args .file) (s .args .budget) (device s) x
+    (file-refused pagesPerFile (deviceIn (device s)) (s .args .file) true (b .admit .result) (b .admit .ensures .0) x (c .before .admission .given .1))
+
+same-length-7 : tie.Need-same-length-7
+same-length-7 c = search needs
+
+same-length-8 : tie.Need-same-length-8
+same-length-8 c = search needs
+
+same-length-9 : tie.Need-same-length-9
+same-length-9 c = search needs
+
+returns-3 : tie.Need-returns-3
+returns-3 c =
+    let y = c .before .before in
+    let w = c .before .before .before .before .before .before .before .before .before in
+    let t = w .before .before .before .before .before in
     let s = start t in
-    c .outcome .ensures _ (s .args .frames .now)
-    ∙ rw (y .synced-state .ensures) (plan-ends pagesPerFile (s .args .budget) (syncPlan pagesPerFile (device s) (s .args .file)) _ (device s) (w .sync-writes .result) _ (w .sync-writes .ensures) (fileTests pagesPerFile (device s) (s .args .file) true) (all t))
+    done-ends pagesPerFile (s .args .file) (s .args .budget) (device s) (w .sync-writes .result) _ (w .sync-writes .ensures) (all t) _ (omega arith) (y .sync-state .ensures)
 
 pub sync-spec : {M : Type 1} → statement M
 sync-spec =
@@ -86,11 +128,18 @@ sync-spec =
     enum-known-admission
     enum-told
     sync-writes-requires
-    synced-state-requires
-    outcome-requires
+    down-state-requires
+    encode-requires
     same-length
     same-length-2
-    returns
     same-length-3
+    returns
+    sync-state-requires
     same-length-4
-    returns-2)
+    same-length-5
+    same-length-6
+    returns-2
+    same-length-7
+    same-length-8
+    same-length-9
+    returns-3)

@@ -1,78 +1,94 @@
--- `writeback::sync_writes` meets its contract: the places below `place` are carried out, and the places joined are the plan.
-use mathlib.Core.Path.{_≡_}
-use Prim.Native.Nat.{_+_, _-_, _≤_}
+-- `writeback::sync_writes` meets its contract: the three parts joined are the plan.
+use mathlib.Core.Path.{_≡_, refl}
 use native.Mathlib.Omega.{arith}
-use lib.ListN.{length}
 use borrow.Author.Needs.{needs}
 use Rattle.media.specs.Geometry.{pagesPerFile}
 use Rattle.media.specs.Write.{mediaOf}
-use Rattle.device.specs.Device.{deviceOf}
-use Rattle.writeback.proofs.Places.{Carried, carried-none, carried-next, carried-all}
+use Rattle.device.specs.Device.{Device, deviceOf}
+use Rattle.state_bytes.specs.Encoding.{decode}
+use Rattle.state_bytes.proofs.InPlace.{shaped}
+use Rattle.writeback.proofs.Pages.{table-fits, one-more, sync-spent}
 use Rattle.writeback.proofs.sync_writes.Statement.{statement}
 use Rattle.writeback.proofs.sync_writes.Tie as tie
 
-abbrev Inv-loop : tie.InvT-loop
-Inv-loop media₀ sizes₀ frames cache file budget slots needed₀ place₀ media sizes needed place =
-    Carried pagesPerFile budget (deviceOf (mediaOf media₀ sizes₀) frames cache) file place needed (mediaOf media sizes)
-    × (place ≤ pagesPerFile + 2) × (length media ≡ length media₀) × (length sizes ≡ length sizes₀)
+abbrev device : tie.Start → Device
+device s = deviceOf (mediaOf (s .args .media .now) (s .args .sizes .now)) (s .args .frames .now) (decode (s .args .state .now))
 
-abbrev μ-loop : tie.MeasureT-loop
-μ-loop media₀ sizes₀ frames cache file budget slots needed₀ place₀ media sizes needed place = pagesPerFile + 2 - place
+logical-at-requires : tie.Need-logical-at-requires
+logical-at-requires c κs = search needs
 
-file-slots-requires : tie.Need-file-slots-requires Inv-loop μ-loop
-file-slots-requires c κs = search needs
+cast-logical : tie.Need-cast-logical
+cast-logical c = search needs
 
-loop-holds : tie.Need-loop-holds Inv-loop μ-loop
-loop-holds c = (carried-none, search needs, search needs, search needs)
+floor-at-requires : tie.Need-floor-at-requires
+floor-at-requires c κs = search needs
 
-add-loop : tie.Need-add-loop Inv-loop μ-loop
-add-loop c = search needs
+cast-floor : tie.Need-cast-floor
+cast-floor c = search needs
 
-planned-write-requires : tie.Need-planned-write-requires Inv-loop μ-loop
-planned-write-requires c κs = search needs
+mul-stored : tie.Need-mul-stored
+mul-stored c = search needs
 
-carry-out-requires : tie.Need-carry-out-requires Inv-loop μ-loop
-carry-out-requires c κs =
-    let l = c .before .before .before .before .before in
-    (omega (arith, l .loop .inv .2), omega (arith, l .loop .inv .3), omega arith, omega arith, c .before .before .planned-write .ensures .1, omega (arith, l .loop .inv .0 .most))
+slice-read-stored : tie.Need-slice-read-stored
+slice-read-stored c = search needs
 
-add-place : tie.Need-add-place Inv-loop μ-loop
-add-place c = search needs
+cast-stored : tie.Need-cast-stored
+cast-stored c = omega (arith, c .slice-known3 .given (c .before .before .before .before .before .before .before .args .file))
 
-loop-less : tie.Need-loop-less Inv-loop μ-loop
-loop-less c = search needs
+trim-if-requires : tie.Need-trim-if-requires
+trim-if-requires c κs = search needs
 
-loop-again : tie.Need-loop-again Inv-loop μ-loop
-loop-again c =
-    let p = c .before .before .before .before in
-    let w = p .before .before .before in
-    let l = w .before .before .before in
-    let a = l .before .before .before .before .before .args in
-    (carried-next (l .loop .inv .0) (w .planned-write .result) (p .carry-out .result) (mediaOf (p .carry-out .last .0) (p .carry-out .last .1 .0)) (w .planned-write .ensures .0 (a .frames .now)) (p .carry-out .ensures), omega arith, omega (arith, p .carry-out .kept .0, l .loop .inv .2), omega (arith, p .carry-out .kept .1 .0, l .loop .inv .3))
+write-pages-requires : tie.Need-write-pages-requires
+write-pages-requires c κs =
+    let t = c .before .before .before .before .before in
+    let s = t .before .before .before .before .before .before .before .before .before .before in
+    let a = s .args in (
+      omega arith,
+      omega arith,
+      omega arith,
+      omega (arith, one-more _ _ (t .trim-if .ensures)),
+      rw (s .pre .7) (table-fits (decode (a .state .now) .slots) (shaped (a .state .now) .slots)),
+    )
 
-same-length : tie.Need-same-length Inv-loop μ-loop
+size-if-requires : tie.Need-size-if-requires
+size-if-requires c κs =
+    let w = c .before .before .before .before in
+    let t = w .before .before .before .before .before .before in
+    let l = t .before .before .before .before .before in
+    (omega arith, omega arith, omega arith, omega (arith, l .logical-at .ensures), omega (arith, w .write-pages .ensures .0, one-more _ _ (t .trim-if .ensures)))
+
+same-length : tie.Need-same-length
 same-length c = search needs
 
-same-length-2 : tie.Need-same-length-2 Inv-loop μ-loop
+same-length-2 : tie.Need-same-length-2
 same-length-2 c = search needs
 
-returns : tie.Need-returns Inv-loop μ-loop
-returns c = carried-all (c .before .loop .inv .0) (omega arith)
+returns : tie.Need-returns
+returns c =
+    let z = c .before .before in
+    let w = z .before .before .before .before .before in
+    let t = w .before .before .before .before .before .before in
+    let k = t .before .before .before .before in
+    let l = t .before .before .before .before .before in
+    let s = l .before .before .before .before .before in
+    let a = s .args in
+    sync-spent pagesPerFile (a .budget) (device s) (a .file) (l .logical-at .result) (k .floor-at .result) (t .trim-if .result) (w .write-pages .result) (z .size-if .result) _ _ _
+    (l .logical-at .ensures) (k .floor-at .ensures) (t .trim-if .ensures) (w .write-pages .ensures .1 (t .trim-if .last .1 .0) (device s) refl (s .pre .7)) (z .size-if .ensures)
 
 pub sync-writes-spec : {M : Type 1} → statement M
 sync-writes-spec =
     tie.close
     (tie.spec
-    Inv-loop
-    μ-loop
-    file-slots-requires
-    loop-holds
-    add-loop
-    planned-write-requires
-    carry-out-requires
-    add-place
-    loop-less
-    loop-again
+    logical-at-requires
+    cast-logical
+    floor-at-requires
+    cast-floor
+    mul-stored
+    slice-read-stored
+    cast-stored
+    trim-if-requires
+    write-pages-requires
+    size-if-requires
     same-length
     same-length-2
     returns)

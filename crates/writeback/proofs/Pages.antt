@@ -1,0 +1,72 @@
+-- The media writes of a sync: the loop over the pages, and the three parts of the plan.
+use mathlib.Core.Path.{_≡_, refl}
+use mathlib.Core.Bool.{Bool, not}
+use mathlib.Core.List.{List, _++_}
+use Prim.Native.Nat.{ℕ, _+_, _*_, _/_, _%_, _≤_, _<_}
+use native.Mathlib.Omega.{arith}
+use lib.Dec.{eqb, ltb}
+use lib.ListN.{length, getD, List·getD-eq-default}
+use mir.Syntax.{w64}
+use mir.Val.{Fits}
+use Rattle.memory.specs.Bytes.{part}
+use Rattle.memory.proofs.Cases.{split-lt}
+use Rattle.media.specs.Geometry.{files, pagesPerFile, pageBytes}
+use Rattle.media.specs.Write.{Media, MediaWrite, sizeAt}
+use Rattle.media.specs.Write.MediaWrite.{page, size, trim}
+use Rattle.scan.proofs.Scan.{first-le}
+use Rattle.device.specs.declared.Slot.{Slot}
+use Rattle.device.specs.Device.{Device, slotCount, frameStart, holds, logicalAt, floorAt}
+use Rattle.device.specs.Plan.{writeIf, Spent}
+use Rattle.device.specs.Syncing.{trimWrites, pageWrite, pageWrites, sizeWrites, syncPlan}
+use Rattle.device.proofs.Plan.{at-most-one, spent-none, spent-join}
+use Rattle.device.proofs.Syncing.{pages-more}
+use Rattle.cache_state.specs.Tables.{slotTable}
+use Rattle.cache_state.proofs.Pass.{length-table, table-slot}
+
+-- the table of a state with as many slots as there are
+pub table-fits : (slots : List Slot) → length slots ≡ slotCount → (i : ℕ) → getD (slotTable pagesPerFile slots) i 0 ≤ slotCount
+table-fits slots e i =
+    split-lt i (files * pagesPerFile)
+    (λ h.
+    let q : pagesPerFile * (i / pagesPerFile) + i % pagesPerFile ≡ i = omega arith in
+    let at = rw q at (table-slot slots (i / pagesPerFile) (i % pagesPerFile) (omega arith) (omega arith)) in
+    omega (arith, e, at, first-le (holds (i / pagesPerFile) (i % pagesPerFile)) slots))
+    (λ h.
+    let l : length (slotTable pagesPerFile slots) ≤ i = omega (arith, length-table pagesPerFile slots) in
+    omega (arith, List·getD-eq-default (slotTable pagesPerFile slots) 0 l))
+
+-- an entry that a slot can have fits a word
+pub entry-fits : (table : List ℕ) → ((i : ℕ) → getD table i 0 ≤ slotCount) → (i : ℕ) → Fits w64 (getD table i 0)
+entry-fits table h i = omega (arith, h i)
+
+-- one write at most is one more at most
+pub one-more : {P budget n k : ℕ} {m c : Media} (b : Bool) (w : MediaWrite) → Spent P budget m n k (writeIf b w) c → k ≤ n + 1
+one-more b w x = omega (arith, x .count, at-most-one b w)
+
+module _ (budget : ℕ) (d : Device) (f : ℕ) (before : ℕ) (m : Media) where
+  -- no page yet
+  pub pages-none : Spent pagesPerFile budget m before before (pageWrites d f 0 0) m
+  unfolding pageWrites
+  pages-none = spent-none pagesPerFile budget m before _ refl
+
+  -- page p, whose slot the table has
+  pub pages-next : (p i n k : ℕ) (c e : Media) (frames table : List ℕ) → f < files → p < pagesPerFile → i ≡ p + 1 → d .frames ≡ frames → table ≡ slotTable pagesPerFile (d .cache .slots)
+      → Spent pagesPerFile budget m before n (pageWrites d f p 0) c
+      → Spent pagesPerFile budget c n k
+      (writeIf (ltb (getD table (pagesPerFile * f + p) 0) slotCount) (page f p (part frames (frameStart (getD table (pagesPerFile * f + p) 0)) pageBytes))) e
+      → Spent pagesPerFile budget m before k (pageWrites d f i 0) e
+  unfolding pageWrite
+  pages-next p i n k c e frames table hf hp ei ef et x y =
+      let z : 0 + p ≡ p = omega arith in
+      let more : pageWrites d f i 0 ≡ pageWrites d f p 0 ++ pageWrite d f p = rw ei (rw z at (pages-more d f p 0)) in
+      rw more (spent-join pagesPerFile budget m before c e n k _ _ x (rw (et, table-slot (d .cache .slots) f p hf hp, ← ef) at y))
+
+-- the TRIM, the pages and the SIZE, joined
+pub sync-spent : (P budget : ℕ) (d : Device) (f logical floor trims writes n : ℕ) (m c e : Media) → logical ≡ logicalAt d f → floor ≡ floorAt d f
+    → Spent P budget (d .media) 0 trims (writeIf (ltb floor (sizeAt (d .media) f)) (trim f floor)) m
+    → Spent P budget m trims writes (pageWrites d f P 0) c
+    → Spent P budget c writes n (writeIf (not (eqb logical floor)) (size f logical)) e
+    → Spent P budget (d .media) 0 n (syncPlan P d f) e
+unfolding syncPlan trimWrites sizeWrites
+sync-spent P budget d f logical floor trims writes n m c e el ef x y z =
+    spent-join P budget (d .media) 0 m e trims n _ _ (rw ef at x) (spent-join P budget m trims c e writes n _ _ y (rw (el, ef) at z))
