@@ -128,9 +128,7 @@ pub extern "C" fn boxstore_read(
     if state.len() != state_bytes::STATE_BYTES {
         return SHAPE;
     }
-    answer_word(reading::read(
-        media, sizes, frames, state, file, position, buffer,
-    ))
+    answer_word(reading::read(media, sizes, frames, state, file, position, buffer))
 }
 
 // Write: puts the bytes into cached pages, ascending, and counts them.

@@ -1,0 +1,56 @@
+-- `cache::sync` meets its contract: the bytes of the state, the call on them, and the state that they say.
+use mathlib.Core.Path.{_≡_, _∙_}
+use Rattle.media.specs.Geometry.{pagesPerFile}
+use Rattle.media.specs.Write.{mediaOf}
+use Rattle.scan.proofs.Loops.{length-mapped}
+use Rattle.device.specs.Syncing.{sync}
+use Rattle.state_bytes.specs.Inverse.{Shaped}
+use Rattle.state_bytes.proofs.OnState.{back-on, sync-kept, sync-shaped}
+use borrow.Author.Needs.{needs}
+use Rattle.cache.proofs.sync.Statement.{statement}
+use Rattle.cache.proofs.sync.Tie as tie
+
+-- the lengths of the arrays
+shaped : (c : tie.Start) → Shaped (c .args .cache)
+shaped c = record { slots = search (needs, length-mapped); logical = search needs; floor = search needs }
+
+bytes-of-requires : tie.Need-bytes-of-requires
+bytes-of-requires c κs = search needs
+
+slice-aggregate-sync : tie.Need-slice-aggregate-sync
+slice-aggregate-sync c = search needs
+
+sync-requires : tie.Need-sync-requires
+sync-requires c κs = search needs
+
+slice-aggregate-decode : tie.Need-slice-aggregate-decode
+slice-aggregate-decode c = search needs
+
+decode-requires : tie.Need-decode-requires
+decode-requires c κs = search needs
+
+same-length : tie.Need-same-length
+same-length c = search needs
+
+same-length-2 : tie.Need-same-length-2
+same-length-2 c = search needs
+
+returns : tie.Need-returns
+returns c =
+    let s = c .before .before .before .before .before .before .before .before .before .before .before .before .before .before .before in
+    rw (c .decode .ensures)
+    (back-on (sync pagesPerFile (s .args .file) (s .args .budget)) (λ d. sync-kept pagesPerFile d _ _) (λ d. sync-shaped pagesPerFile d _ _) (mediaOf (s .args .media .now) (s .args .sizes .now)) (s .args .frames .now) (s .args .cache) (shaped s) _ _ _ _
+    (rw (c .before .before .before .before .before .before .before .before .before .before .before .bytes-of .ensures) at (c .before .before .before .before .before .before .before .sync .ensures)))
+
+pub sync-spec : {M : Type 1} → statement M
+sync-spec =
+    tie.close
+    (tie.spec
+    bytes-of-requires
+    slice-aggregate-sync
+    sync-requires
+    slice-aggregate-decode
+    decode-requires
+    same-length
+    same-length-2
+    returns)
