@@ -18,7 +18,7 @@ use Rattle.device.specs.Admission.{Result, give}
 use Rattle.device.specs.Reading.{read}
 use Rattle.device.specs.Looking.{lookCount, lookSpan}
 use Rattle.state_bytes.specs.Encoding.{stateBytes, encoded}
-use Rattle.state_bytes.specs.InPlace.{Lent, lent, deviceIn, stateAfter}
+use Rattle.state_bytes.specs.InPlace.{Lent, lent, deviceIn, stateAfter, onState}
 use Rattle.boxstore.specs.Interface.{wordOf, reply, inWord, stateShape, onBytes, readBytes, lookCountBytes, spanWord, lookWord, downBytes, sizesRecord, truncateSizes}
 
 -- a state of another length
@@ -45,6 +45,10 @@ module _ (l : Lent) (h : length (l .state) ≡ stateBytes) (w : ℕ) where
       → w ≡ wordOf a → state ≡ stateAfter a (d .cache) (l .state) → reply w (lent (d .media) (d .frames) state) ≡ inWord (onBytes call l)
   unfolding onBytes stateShape
   on-call call a d state e v s = rw (eq-eqb (length (l .state)) stateBytes h, ← e, v, s)
+
+  pub on-state : (call : Device → Result Device) (a : Coded) (after : Lent) → give a after ≡ onState call l → w ≡ wordOf a → reply w after ≡ inWord (onBytes call l)
+  unfolding onBytes stateShape
+  on-state call a after e v = rw (eq-eqb (length (l .state)) stateBytes h, v) (ap (λ (r : Result Lent). inWord r) e)
 
   pub read-call : (P f position : ℕ) (buffer after : List ℕ) (a : Coded) → give a after ≡ read P f position buffer (deviceIn l)
       → w ≡ wordOf a → reply w after ≡ inWord (readBytes P f position buffer l)

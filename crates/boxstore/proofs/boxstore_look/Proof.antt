@@ -1,43 +1,33 @@
--- `boxstore::boxstore_look` meets its contract: 0 for the state's length, or where the part lies on the device that the bytes say.
+-- `boxstore::boxstore_look` meets its contract: 0 for the state's length, or where the part lies.
 use mathlib.Core.Path.{_≡_}
 use Prim.Native.Nat.{_≤_, _<_}
 use native.Mathlib.Omega.{arith}
-use borrow.Author.Needs.{needs}
 use Rattle.answer.specs.Coded.{coded}
 use Rattle.media.specs.Geometry.{pagesPerFile}
 use Rattle.media.specs.Write.{mediaOf}
-use Rattle.device.specs.Device.{deviceOf}
 use Rattle.state_bytes.specs.InPlace.{Lent, lent, deviceIn}
-use Rattle.device.specs.Looking.{lookSpan}
 use Rattle.device.proofs.Looking.{span-within}
 use Rattle.boxstore.proofs.Replies.{look-shape, look-call}
+use borrow.Author.Needs.{needs}
 use Rattle.boxstore.proofs.boxstore_look.Statement.{statement}
 use Rattle.boxstore.proofs.boxstore_look.Tie as tie
 
 abbrev came : tie.Start → Lent
 came c = lent (mediaOf (c .args .media .now) (c .args .sizes .now)) (c .args .frames .now) (c .args .state .now)
 
--- what the call gives on the device that the bytes say
-called : (c : tie.After-look-span) → let s = c .before .before .before .before .before .before .before in c .look-span .result ≡ lookSpan pagesPerFile (s .args .file) (s .args .position) (deviceIn (came s))
-called c = rw (c .before .decode .ensures) at (c .look-span .ensures)
-
 returns : tie.Need-returns
 returns c = look-shape (came (c .before .before .before .before .before)) (λ e. omega arith) pagesPerFile _ _
-
-decode-requires : tie.Need-decode-requires
-decode-requires c κs = search needs
 
 look-span-requires : tie.Need-look-span-requires
 look-span-requires c κs = search needs
 
 span-word-requires : tie.Need-span-word-requires
 span-word-requires c κs =
-    let w = span-within pagesPerFile _ _ (deviceIn (came (c .before .before .before .before .before .before .before))) (c .look-span .result) (called c) in
+    let w = span-within pagesPerFile _ _ (deviceIn (came (c .before .before .before .before .before .before))) (c .look-span .result) (c .look-span .ensures) in
     (omega (arith, w .from-most), omega (arith, w .count-most))
 
 returns-2 : tie.Need-returns-2
-returns-2 c = look-call (came (c .before .before .before .before .before .before .before .before)) (omega arith) _ pagesPerFile _ _ (c .before .look-span .result) (called (c .before)) (c .span-word .ensures)
+returns-2 c = look-call (came (c .before .before .before .before .before .before .before)) (omega arith) _ pagesPerFile _ _ (c .before .look-span .result) (c .before .look-span .ensures) (c .span-word .ensures)
 
 pub boxstore-look-spec : {M : Type 1} → statement M
-boxstore-look-spec =
-    tie.close (tie.spec returns decode-requires look-span-requires span-word-requires returns-2)
+boxstore-look-spec = tie.close (tie.spec returns look-span-requires span-word-requires returns-2)
