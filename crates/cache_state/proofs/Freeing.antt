@@ -3,25 +3,29 @@ use mathlib.Core.Path.{_≡_, refl, sym, ap, _∙_}
 use mathlib.Core.Bool.{true, false, cond, _&&_}
 use mathlib.Core.List.{List, [], _∷_, _++_, map}
 use Prim.Native.Nat.{ℕ, zero, suc, _+_, _*_, _≤_, _<_}
+use native.Mathlib.Nat.{add-zero}
 use native.Mathlib.Numerals.{add-one}
 use native.Mathlib.Omega.{arith}
-use lib.Dec.{eqb, ltb}
+use lib.Dec.{eqb, ltb, leb}
 use lib.ListN.{length, getD, set, take, drop, length-map}
 use lib.Seq.{set-getD}
+use borrow.Author.Tests.{eqb-true, leb-true}
 use borrow.Table.Steps.{cases}
 use Rattle.memory.proofs.Bytes.{length-overwrite}
 use Rattle.scan.proofs.Loops.{map-more, map-done}
+use Rattle.scan.proofs.Scan.{and-left, and-right}
 use Rattle.device.specs.declared.Slot.{Slot}
 use Rattle.device.specs.declared.CacheState.{CacheState}
 use Rattle.device.specs.Device.{slotCount, freeSlot, freeWhere, withSlots}
 use Rattle.device.specs.Truncating.{pagesFrom}
 use Rattle.device.specs.Syncing.{pagesOf}
 use Rattle.device.proofs.Syncing.{free-all}
-use Rattle.state_bytes.specs.Encoding.{stateBytes, slotsAt, slotBytes, encode, decode, slotSet}
+use Rattle.state_bytes.specs.Encoding.{stateBytes, slotsAt, slotBytes, encode, decode, slotSet, zerosFrom, eightFree}
 use Rattle.state_bytes.specs.InPlace.{IsEncoded}
 use Rattle.state_bytes.specs.Inverse.{Shaped}
 use Rattle.state_bytes.proofs.Inverse.{inverse}
-use Rattle.state_bytes.proofs.InPlace.{shaped, decode-is, slot-set}
+use Rattle.state_bytes.proofs.InPlace.{shaped, decode-is, slot-read, slot-set}
+use Rattle.state_bytes.proofs.Zeros.{zeros-at}
 use Rattle.cache_state.specs.Freeing.{isFrom, freedSlots}
 
 -- ---- one slot more
@@ -34,6 +38,35 @@ module _ (f n k : ℕ) (bytes state : List ℕ) (h : state ≡ freedSlots f n k 
   pub freed-none : isFrom f n (getD (decode state .slots) k freeSlot) ≡ false → state ≡ freedSlots f n (k + 1) bytes
   unfolding freedSlots
   freed-none e = rw (add-one, ← h, e)
+
+-- eight free slots more
+module _ (f n : ℕ) (bytes state : List ℕ) where
+  -- a slot whose first byte is 0 is free
+  blank : (k : ℕ) → length state ≡ stateBytes → k < slotCount → getD state (slotsAt + 3 * k) 0 ≡ 0
+      → isFrom f n (getD (decode state .slots) k freeSlot) ≡ false
+  blank k e h z = rw (slot-read state e k h, z)
+
+  blanks : (k m : ℕ) → length state ≡ stateBytes → k + m ≤ slotCount → ((i : ℕ) → i < 3 * m → getD state (slotsAt + 3 * k + i) 0 ≡ 0)
+      → state ≡ freedSlots f n k bytes → state ≡ freedSlots f n (k + m) bytes
+  blanks k zero e l z h = let q : k + 0 ≡ k = omega arith in rw q h
+  blanks k (suc m) e l z h =
+      let q : k + suc m ≡ k + 1 + m = omega arith in
+      rw q
+      (blanks (k + 1) m e (omega arith)
+      (λ i j. let w : slotsAt + 3 * (k + 1) + i ≡ slotsAt + 3 * k + (3 + i) = omega arith in rw w (z (3 + i) (omega arith)))
+      (freed-none f n k bytes state h (blank k e (omega arith) (rw add-zero at (z 0 (omega arith))))))
+
+  pub freed-eight : (k : ℕ) → eightFree state k ≡ true → state ≡ freedSlots f n k bytes → state ≡ freedSlots f n (k + 8) bytes
+  unfolding eightFree
+  freed-eight k t h =
+      let r : leb (k + 8) slotCount && zerosFrom state (slotsAt + 3 * k) 24 ≡ true = and-right (eqb (length state) stateBytes) _ t in
+      blanks k 8 (eqb-true _ _ (and-left (eqb (length state) stateBytes) _ t)) (leb-true _ _ (and-left (leb (k + 8) slotCount) _ r))
+      (zeros-at state (slotsAt + 3 * k) 24 (and-right (leb (k + 8) slotCount) _ r)) h
+
+-- what eight free slots say of their number
+pub eight-within : (state : List ℕ) (k : ℕ) → eightFree state k ≡ true → k + 8 ≤ slotCount
+unfolding eightFree
+eight-within state k t = leb-true _ _ (and-left (leb (k + 8) slotCount) _ (and-right (eqb (length state) stateBytes) _ t))
 
 -- ---- the length of the bytes stays
 

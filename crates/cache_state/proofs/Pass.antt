@@ -19,9 +19,10 @@ use Rattle.device.specs.declared.Slot.{Slot}
 use Rattle.device.specs.Device.{slotCount, freeSlot, holds}
 use Rattle.device.specs.Sound.{inRange, holdsAlone}
 use Rattle.device.proofs.Device.{holds-own, holds-one}
-use Rattle.state_bytes.specs.Encoding.{slotsAt, slotIn, slotsIn, isState}
+use Rattle.state_bytes.specs.Encoding.{stateBytes, slotsAt, slotIn, slotsIn, isState, eightFree}
 use Rattle.state_bytes.proofs.Encoding.{length-each, getD-each}
-use Rattle.cache_state.specs.Tables.{noneCached, slotsFrom, slotTable, zerosFrom, slotsPass, slotBelow, Passed}
+use Rattle.state_bytes.proofs.Zeros.{zeros-at}
+use Rattle.cache_state.specs.Tables.{noneCached, slotsFrom, slotTable, slotsPass, slotBelow, Passed}
 
 -- ---- the table of all slots
 
@@ -51,33 +52,6 @@ table-slot slots f p hf hp =
     let a : (pagesPerFile * f + p) / pagesPerFile ≡ f = omega arith in
     let b : (pagesPerFile * f + p) % pagesPerFile ≡ p = omega arith in
     table-at pagesPerFile slots (pagesPerFile * f + p) (omega arith) ∙ rw (a, b)
-
--- ---- bytes that are 0
-
-pub zeros-none : (bytes : List ℕ) (a : ℕ) → true ≡ zerosFrom bytes a 0
-unfolding zerosFrom
-zeros-none bytes a = refl
-
-module _ (bytes : List ℕ) (a n : ℕ) (b : Bool) (e : b ≡ zerosFrom bytes a n) where
-  pub zeros-stop : getD bytes (a + n) 0 ≢ 0 → false ≡ zerosFrom bytes a (n + 1)
-  unfolding zerosFrom
-  zeros-stop ne = rw (add-one, ← e, ne-eqb (getD bytes (a + n) 0) 0 ne) (and-no b)
-    where
-      and-no : (x : Bool) → false ≡ x && false
-      and-no true = refl
-      and-no false = refl
-
-  pub zeros-next : getD bytes (a + n) 0 ≡ 0 → b ≡ zerosFrom bytes a (n + 1)
-  unfolding zerosFrom
-  zeros-next q = rw (add-one, ← e, eq-eqb (getD bytes (a + n) 0) 0 q) (and-yes b)
-    where
-      and-yes : (x : Bool) → x ≡ x && true
-      and-yes true = refl
-      and-yes false = refl
-
-pub zeros-at : (bytes : List ℕ) (a n : ℕ) → zerosFrom bytes a n ≡ true → (i : ℕ) → i < n → getD bytes (a + i) 0 ≡ 0
-unfolding zerosFrom
-zeros-at bytes a n e i h = eqb-true _ _ (everyBelow-at n (λ j. eqb (getD bytes (a + j) 0) 0) e i h)
 
 -- ---- the pass
 
@@ -323,5 +297,6 @@ module _ (bytes : List ℕ) where
       (omega arith)
       (λ i l. let q : slotsAt + 3 * (k + 1) + i ≡ slotsAt + 3 * k + (3 + i) = omega arith in rw q (z (3 + i) (omega arith))))
 
-  pub passed-eight : (table : List ℕ) (k : ℕ) → Passed bytes table k → k + 8 ≤ slotCount → zerosFrom bytes (slotsAt + 3 * k) 24 ≡ true → Passed bytes table (k + 8)
-  passed-eight table k x h z = blanks table k 8 x h (zeros-at bytes (slotsAt + 3 * k) 24 z)
+  pub passed-eight : (table : List ℕ) (k : ℕ) → Passed bytes table k → k + 8 ≤ slotCount → eightFree bytes k ≡ true → Passed bytes table (k + 8)
+  unfolding eightFree
+  passed-eight table k x h z = blanks table k 8 x h (zeros-at bytes (slotsAt + 3 * k) 24 (and-right (leb (k + 8) slotCount) _ (and-right (eqb (length bytes) stateBytes) _ z)))

@@ -4,7 +4,7 @@ use Prim.Native.Nat.{ℕ, zero, suc, _+_, _*_, _/_, _%_, _<_}
 use mathlib.Core.Path.{_≡_}
 use mathlib.Core.Bool.{Bool, true, cond, _&&_}
 use mathlib.Core.List.{List, [], _∷_}
-use lib.Dec.{eqb, ltb, leb}
+use lib.Dec.{ltb, leb}
 use lib.ListN.{length, getD, replicate}
 use Rattle.answer.specs.Coded.{Coded}
 use Rattle.answer.specs.Admission.{ifDone}
@@ -33,10 +33,6 @@ unfoldable pub tableAfter : Coded → List Slot → List ℕ
 tableAfter a slots = ifDone a (slotTable pagesPerFile slots) noneCached
 
 -- ---- the pass
-
--- n bytes from index a on are 0
-unfoldable pub zerosFrom : List ℕ → ℕ → ℕ → Bool
-zerosFrom bytes a n = everyBelow n (λ i. eqb (getD bytes (a + i) 0) 0)
 
 -- bytes whose slots are sound
 unfoldable pub slotsPass : List ℕ → Bool

@@ -20,7 +20,7 @@ ghost use Rattle.device.specs.Sound.{sizesIn, isDown, isSound};
 ghost use Rattle.state_bytes.specs.Encoding.{stateBytes, slotsAt, slotsIn, decode};
 ghost use Rattle.state_bytes.specs.InPlace.{IsEncoded};
 ghost use Rattle.cache_state.specs.Freeing.{isFrom, freedSlots};
-ghost use Rattle.cache_state.specs.Tables.{noneCached, slotTable, tableAfter, zerosFrom, slotsPass, Passed};
+ghost use Rattle.cache_state.specs.Tables.{noneCached, slotTable, tableAfter, slotsPass, Passed};
 ghost use Rattle.device.specs.Admission.{mediaShape, mountedTests, stateTests, mountTests, deviceTests, fileTests};
 
 // A slot for each page of each file.
@@ -65,16 +65,20 @@ fn is_from(s: Slot, file: usize, n: usize) -> bool
     false
 }
 
-// The cached pages of a file that begin at or past n are freed.
+// The cached pages of a file that begin at or past n are freed. Eight free slots are passed over at a time.
 pub fn free_pages_from(state: &mut [u8], file: usize, n: usize)
     ensures { λ r. ⌜ now (state .exit) ≡ freedSlots file n slotCount (now (state .entry)) ⌝ }
 {
     let mut k = 0;
     while k < device::SLOTS {
-        if is_from(state_bytes::slot_at(state, k), file, n) {
-            state_bytes::set_slot(state, k, free_slot());
+        if state_bytes::eight_free(state, k) {
+            k += 8;
+        } else {
+            if is_from(state_bytes::slot_at(state, k), file, n) {
+                state_bytes::set_slot(state, k, free_slot());
+            }
+            k += 1;
         }
-        k += 1;
     }
 }
 
@@ -166,19 +170,20 @@ fn is_down(cache: CacheState) -> bool
     false
 }
 
-// Whether no stored size is above the greatest file size.
+// Whether no stored size is above the greatest file size. The loop goes to the end, so that it becomes vector code.
 fn sizes_fit(sizes: &[u32], greatest: usize) -> bool
     ensures { λ r. ⌜ r ≡ every (λ n. leb n greatest) (now (sizes .entry)) ⌝ }
 {
+    let mut all = true;
     let mut i = 0;
     while i < sizes.len() {
         let n = sizes[i] as usize;
         if greatest < n {
-            return false;
+            all = false;
         }
         i += 1;
     }
-    true
+    all
 }
 
 // SHAPE of the media: the refusals of a format.
@@ -226,23 +231,6 @@ fn none_cached() -> [u8; TABLE]
     ensures { λ r. ⌜ r ≡ noneCached ⌝ }
 {
     [device::SLOTS as u8; TABLE]
-}
-
-// Whether the bytes of eight slots from slot k on are 0. The loop goes to the end, so that it becomes vector code.
-fn eight_free(state: &[u8], k: usize) -> bool
-    requires { ⌜ (length (now state) ≡ stateBytes) × (k + 8 ≤ slotCount) ⌝ }
-    ensures { λ r. ⌜ r ≡ zerosFrom (now (state .entry)) (slotsAt + 3 * k) 24 ⌝ }
-{
-    let at = 1 + 3 * k;
-    let mut free = true;
-    let mut i = 0;
-    while i < 24 {
-        if state[at + i] != 0 {
-            free = false;
-        }
-        i += 1;
-    }
-    free
 }
 
 // Slot k names a page that there is, which no slot before it holds, and the page gets its place in the table; or it is free and
@@ -305,7 +293,7 @@ fn find_slots(state: &[u8], slots: &mut [u8; TABLE]) -> bool
 {
     let mut k = 0;
     while k < device::SLOTS {
-        if eight_free(state, k) {
+        if state_bytes::eight_free(state, k) {
             k += 8;
         } else {
             if find_eight(state, k, slots) {

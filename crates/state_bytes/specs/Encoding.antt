@@ -103,3 +103,13 @@ slotSet bytes k s = cond (eqb (length bytes) stateBytes && ltb k slotCount) (ove
 -- the bytes with another size of file f among those that begin at a; they stay alike
 unfoldable pub sizeSet : ℕ → List ℕ → ℕ → ℕ → List ℕ
 sizeSet a bytes f n = cond (eqb (length bytes) stateBytes && ltb f files) (overwrite bytes (a + 4 * f) (numberBytes n)) bytes
+
+-- ---- free slots
+
+-- n bytes from index a on are 0
+unfoldable pub zerosFrom : List ℕ → ℕ → ℕ → Bool
+zerosFrom bytes a n = everyBelow n (λ i. eqb (getD bytes (a + i) 0) 0)
+
+-- the bytes of eight slots from slot k on, where there are as many, are 0
+unfoldable pub eightFree : List ℕ → ℕ → Bool
+eightFree bytes k = eqb (length bytes) stateBytes && (leb (k + 8) slotCount && zerosFrom bytes (slotsAt + 3 * k) 24)

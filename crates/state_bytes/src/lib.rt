@@ -11,7 +11,7 @@ ghost use lib.ListN.{length, getD};
 ghost use Rattle.memory.specs.Bytes.{overwrite};
 ghost use Rattle.media.specs.Geometry.{files};
 ghost use Rattle.device.specs.Device.{freeSlot, noSlots};
-ghost use Rattle.state_bytes.specs.Encoding.{stateBytes, slotsAt, slotBytes, numberBytes, joined, encoded, slotIn, numberIn, slotsIn, sizesIn, isState, noMark, decode, logicalAt, floorAt, slotSet, sizeSet};
+ghost use Rattle.state_bytes.specs.Encoding.{stateBytes, slotsAt, slotBytes, numberBytes, joined, encoded, slotIn, numberIn, slotsIn, sizesIn, isState, noMark, decode, logicalAt, floorAt, slotSet, sizeSet, zerosFrom, eightFree};
 
 // The length of the buffer.
 pub const STATE_BYTES: usize = 137;
@@ -275,4 +275,39 @@ pub fn set_floor(state: &mut [u8], file: usize, n: u32)
             put_number(state, FLOOR_AT + 4 * file, n);
         }
     }
+}
+
+// Eight bytes as one number, low byte first.
+fn word_in(state: &[u8], at: usize) -> u64
+    requires { ⌜ at + 8 ≤ length (now state) ⌝ }
+    ensures { λ r. ⌜ r ≡ numberIn (now (state .entry)) at + 4294967296 * numberIn (now (state .entry)) (at + 4) ⌝ }
+{
+    let low = number_in(state, at) as u64;
+    let high = number_in(state, at + 4) as u64;
+    low + 4294967296 * high
+}
+
+// Whether 24 bytes are 0.
+fn is_zero(state: &[u8], at: usize) -> bool
+    requires { ⌜ at + 24 ≤ length (now state) ⌝ }
+    ensures { λ r. ⌜ r ≡ zerosFrom (now (state .entry)) at 24 ⌝ }
+{
+    if word_in(state, at) == 0 {
+        if word_in(state, at + 8) == 0 {
+            return word_in(state, at + 16) == 0;
+        }
+    }
+    false
+}
+
+// Whether the bytes of eight slots from slot k on are 0: all of them are free. False where there are not as many.
+pub fn eight_free(state: &[u8], k: usize) -> bool
+    ensures { λ r. ⌜ r ≡ eightFree (now (state .entry)) k ⌝ }
+{
+    if state.len() == STATE_BYTES {
+        if k <= device::SLOTS - 8 {
+            return is_zero(state, SLOTS_AT + 3 * k);
+        }
+    }
+    false
 }

@@ -22,7 +22,7 @@ loop-holds : tie.Need-loop-holds Inv-loop μ-loop
 loop-holds c = (rw (c .before .pre .1) (passed-none (c .before .args .state .now)), search needs, search needs, search needs)
 
 eight-free-requires : tie.Need-eight-free-requires Inv-loop μ-loop
-eight-free-requires c κs = (search needs, omega arith)
+eight-free-requires c κs = search needs
 
 add-k : tie.Need-add-k Inv-loop μ-loop
 add-k c = omega arith

@@ -1,14 +1,14 @@
 -- `cache_state::free_pages_from` meets its contract: of the slots before k those of such pages are free.
 use mathlib.Core.Path.{_≡_, refl, sym, ap, _∙_}
-use Prim.Native.Nat.{_≤_, _-_}
-use native.Mathlib.Omega.{arith}
 use mathlib.Core.Logic.{⊎-elim}
+use Prim.Native.Nat.{_+_, _≤_, _-_}
+use native.Mathlib.Omega.{arith}
 use lib.ListN.{length}
 use borrow.Author.Needs.{needs}
 use Rattle.device.specs.Device.{slotCount}
 use Rattle.state_bytes.specs.Encoding.{slotSet}
 use Rattle.cache_state.specs.Freeing.{isFrom, freedSlots}
-use Rattle.cache_state.proofs.Freeing.{freed-here, freed-none, length-freed}
+use Rattle.cache_state.proofs.Freeing.{freed-here, freed-none, freed-eight, eight-within, length-freed}
 use Rattle.cache_state.proofs.free_pages_from.Statement.{statement}
 use Rattle.cache_state.proofs.free_pages_from.Tie as tie
 
@@ -22,6 +22,25 @@ loop-holds : tie.Need-loop-holds Inv-loop μ-loop
 unfolding freedSlots
 loop-holds c = (refl, search needs)
 
+eight-free-requires : tie.Need-eight-free-requires Inv-loop μ-loop
+eight-free-requires c κs = search needs
+
+-- eight slots that there are
+within : (c : tie.Then1 Inv-loop μ-loop) → c .before .before .before .before .loop .k + 8 ≤ slotCount
+within c = eight-within (c .before .before .before .before .loop .state) (c .before .before .before .before .loop .k) (sym (c .before .eight-free .ensures) ∙ c .if1 .taken)
+
+add-k : tie.Need-add-k Inv-loop μ-loop
+add-k c = omega (arith, within c)
+
+loop-less : tie.Need-loop-less Inv-loop μ-loop
+loop-less c = omega (arith, within c)
+
+loop-again : tie.Need-loop-again Inv-loop μ-loop
+loop-again c =
+    let l = c .before .before .before .before in
+    let a = c .before .before .before .before .before .before .args in
+    (freed-eight (a .file) (a .n) (a .state .now) (l .loop .state) (l .loop .k) (sym (c .before .eight-free .ensures) ∙ c .if1 .taken) (l .loop .inv .0), within c)
+
 slot-at-requires : tie.Need-slot-at-requires Inv-loop μ-loop
 slot-at-requires c κs = search needs
 
@@ -34,16 +53,16 @@ free-slot-requires c κs = search needs
 set-slot-requires : tie.Need-set-slot-requires Inv-loop μ-loop
 set-slot-requires c κs = search needs
 
-add-k : tie.Need-add-k Inv-loop μ-loop
-add-k c = search needs
+add-k-2 : tie.Need-add-k-2 Inv-loop μ-loop
+add-k-2 c = search needs
 
-loop-less : tie.Need-loop-less Inv-loop μ-loop
-loop-less c = search needs
+loop-less-2 : tie.Need-loop-less-2 Inv-loop μ-loop
+loop-less-2 c = search needs
 
-loop-again : tie.Need-loop-again Inv-loop μ-loop
-loop-again c =
-    let l = c .before .before .before .before .before in
-    let a = l .before .before .args in
+loop-again-2 : tie.Need-loop-again-2 Inv-loop μ-loop
+loop-again-2 c =
+    let l = c .before .before .before .before .before .before .before .before in
+    let a = c .before .before .before .before .before .before .before .before .before .before .args in
     let k = l .loop .k in
     let state = l .loop .state in
     let t = ap (isFrom (a .file) (a .n)) (sym (c .before .before .slot-at .ensures)) ∙ sym (c .before .is-from .ensures) in (
@@ -52,7 +71,7 @@ loop-again c =
           w .6 ∙ w .3 .ensures ∙ ap (slotSet state k) (w .2 .ensures)
           ∙ freed-here (a .file) (a .n) k (a .state .now) state (l .loop .inv .0) (t ∙ w .0 .taken))
           (λ w. w .1 ∙ freed-none (a .file) (a .n) k (a .state .now) state (l .loop .inv .0) (t ∙ w .0 .left))
-          (c .if1 .came),
+          (c .if2 .came),
       search needs,
     )
 
@@ -74,12 +93,16 @@ free-pages-from-spec =
     Inv-loop
     μ-loop
     loop-holds
+    eight-free-requires
+    add-k
+    loop-less
+    loop-again
     slot-at-requires
     is-from-requires
     free-slot-requires
     set-slot-requires
-    add-k
-    loop-less
-    loop-again
+    add-k-2
+    loop-less-2
+    loop-again-2
     same-length
     returns)

@@ -1,0 +1,46 @@
+-- `state_bytes::eight_free` meets its contract.
+use mathlib.Core.Path.{_≡_, sym, _∙_}
+use Prim.Native.Nat.{_+_}
+use native.Mathlib.Omega.{arith}
+use lib.ListN.{length}
+use borrow.Author.Tests.{eq-eqb, ne-eqb, le-leb, lt-leb}
+use Rattle.device.specs.Device.{slotCount}
+use Rattle.state_bytes.specs.Encoding.{stateBytes, eightFree}
+use borrow.Author.Needs.{needs}
+use Rattle.state_bytes.proofs.eight_free.Statement.{statement}
+use Rattle.state_bytes.proofs.eight_free.Tie as tie
+
+sub-if2 : tie.Need-sub-if2
+sub-if2 c = search needs
+
+mul-is-zero : tie.Need-mul-is-zero
+mul-is-zero c = search needs
+
+add-is-zero : tie.Need-add-is-zero
+add-is-zero c = search needs
+
+is-zero-requires : tie.Need-is-zero-requires
+is-zero-requires c κs = search needs
+
+returns : tie.Need-returns
+unfolding eightFree
+returns c =
+    let a = c .before .before .before .before .args in
+    rw (eq-eqb (length (a .state .now)) stateBytes (omega arith), le-leb (a .k + 8) slotCount (omega arith)) (c .is-zero .ensures)
+
+returns-2 : tie.Need-returns-2
+unfolding eightFree
+returns-2 c =
+    let a = c .before .before .before .args in
+    rw (eq-eqb (length (a .state .now)) stateBytes (omega arith), lt-leb (a .k + 8) slotCount (omega arith))
+
+returns-3 : tie.Need-returns-3
+unfolding eightFree
+returns-3 c =
+    let a = c .before .before .args in
+    rw (ne-eqb (length (a .state .now)) stateBytes (λ e. omega arith))
+
+pub eight-free-spec : {M : Type 1} → statement M
+eight-free-spec =
+    tie.close
+    (tie.spec sub-if2 mul-is-zero add-is-zero is-zero-requires returns returns-2 returns-3)
