@@ -63,14 +63,9 @@ module _ (f n : ℕ) (bytes state : List ℕ) where
       blanks k 8 (eqb-true _ _ (and-left (eqb (length state) stateBytes) _ t)) (leb-true _ _ (and-left (leb (k + 8) slotCount) _ r))
       (zeros-at state (slotsAt + 3 * k) 24 (and-right (leb (k + 8) slotCount) _ r)) h
 
--- what eight free slots say of their number
-pub eight-within : (state : List ℕ) (k : ℕ) → eightFree state k ≡ true → k + 8 ≤ slotCount
-unfolding eightFree
-eight-within state k t = leb-true _ _ (and-left (leb (k + 8) slotCount) _ (and-right (eqb (length state) stateBytes) _ t))
-
 -- ---- the length of the bytes stays
 
-length-slot-set : (bytes : List ℕ) (k : ℕ) (x : Slot) → length (slotSet bytes k x) ≡ length bytes
+pub length-slot-set : (bytes : List ℕ) (k : ℕ) (x : Slot) → length (slotSet bytes k x) ≡ length bytes
 unfolding slotSet
 length-slot-set bytes k x =
     cases (eqb (length bytes) stateBytes && ltb k slotCount)

@@ -6,6 +6,7 @@ use device::FileSizes;
 use device::Slot;
 ghost use mathlib.Core.Path.{_≡_};
 ghost use mathlib.Core.Bool.{true, false};
+ghost use mathlib.Core.List.{List};
 ghost use Prim.Native.Nat.{ℕ, _+_, _*_, _<_, _≤_};
 ghost use lib.ListN.{length, getD};
 ghost use lib.Dec.{eqb, leb};
@@ -65,6 +66,21 @@ fn is_from(s: Slot, file: usize, n: usize) -> bool
     false
 }
 
+// Of eight slots from slot k on those that hold such a page are freed.
+fn free_eight(state: &mut [u8], k: usize, file: usize, n: usize)
+    requires { ⌜ k + 8 ≤ slotCount ⌝ }
+    ensures { λ r. ⌜ ((bytes : List ℕ) → now (state .entry) ≡ freedSlots file n k bytes → now (state .exit) ≡ freedSlots file n (k + 8) bytes) ⌝ }
+{
+    let end = k + 8;
+    let mut i = k;
+    while i < end {
+        if is_from(state_bytes::slot_at(state, i), file, n) {
+            state_bytes::set_slot(state, i, free_slot());
+        }
+        i += 1;
+    }
+}
+
 // The cached pages of a file that begin at or past n are freed. Eight free slots are passed over at a time.
 pub fn free_pages_from(state: &mut [u8], file: usize, n: usize)
     ensures { λ r. ⌜ now (state .exit) ≡ freedSlots file n slotCount (now (state .entry)) ⌝ }
@@ -74,10 +90,8 @@ pub fn free_pages_from(state: &mut [u8], file: usize, n: usize)
         if state_bytes::eight_free(state, k) {
             k += 8;
         } else {
-            if is_from(state_bytes::slot_at(state, k), file, n) {
-                state_bytes::set_slot(state, k, free_slot());
-            }
-            k += 1;
+            free_eight(state, k, file, n);
+            k += 8;
         }
     }
 }
