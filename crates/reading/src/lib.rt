@@ -7,14 +7,14 @@ use media::PAGES_PER_FILE;
 ghost use mathlib.Core.Path.{_≡_};
 ghost use mathlib.Core.Bool.{true};
 ghost use mathlib.Core.List.{List};
-ghost use Prim.Native.Nat.{_+_, _≤_, _<_, _^_, ℕ, _/_, _%_};
+ghost use Prim.Native.Nat.{_+_, _*_, _≤_, _<_, ℕ, _/_, _%_};
 ghost use lib.ListN.{length, getD};
 ghost use lib.Dec.{leb};
 ghost use Rattle.answer.specs.Coded.{coded, done};
 ghost use Rattle.answer.specs.Admission.{firstRefusal};
 ghost use Rattle.memory.specs.Bytes.{overwrite};
 ghost use Rattle.media.specs.Geometry.{files, fileBytes, mediaBytes, pageBytes, pagesPerFile};
-ghost use Rattle.media.specs.Write.{mediaOf};
+ghost use Rattle.media.specs.Write.{Media, mediaOf};
 ghost use Rattle.scan.specs.Scan.{firstIndex};
 ghost use Rattle.device.specs.declared.CacheState.{CacheState};
 ghost use Rattle.device.specs.Device.{deviceOf, slotCount, framesBytes, holds};
@@ -51,36 +51,50 @@ fn admit_at(
     )
 }
 
-// The current bytes of a file from `at` on, within one page, whose slot is k, fill the buffer. The file has this floor.
-fn read_page(
-    media: &[u8],
-    frames: &[u8],
-    floor: usize,
-    file: usize,
-    at: usize,
-    k: usize,
-    buffer: &mut [u8],
-    pages: usize,
-)
-    requires { ⌜ (fileBytes pages < 2 ^ 32) × (length (now media) ≡ mediaBytes pages) × (length (now frames) ≡ framesBytes) × (file < files)
-        × (at + length (now buffer) ≤ fileBytes pages) × (at % pageBytes + length (now buffer) ≤ pageBytes) ⌝ }
-    ensures { λ r. ⌜ ((stored : List ℕ) (c : CacheState) → k ≡ firstIndex (holds file (at / pageBytes)) (c .slots) → floor ≡ getD (c .floor) file 0
-        → now (buffer .exit) ≡ currentBytes pages (deviceOf (mediaOf (now (media .entry)) stored) (now (frames .entry)) c) file at (length (now (buffer .entry)))) ⌝ }
+// The current bytes of a file from `at` on, within one cached page, whose slot is k, fill the buffer.
+fn read_frame(frames: &[u8], at: usize, k: usize, buffer: &mut [u8])
+    requires { ⌜ (length (now frames) ≡ framesBytes) × (k < slotCount) × (at % pageBytes + length (now buffer) ≤ pageBytes) ⌝ }
+    ensures { λ r. ⌜ ((media : Media) (c : CacheState) (file : ℕ) → k ≡ firstIndex (holds file (at / pageBytes)) (c .slots)
+        → now (buffer .exit) ≡ currentBytes pagesPerFile (deviceOf media (now (frames .entry)) c) file at (length (now (buffer .entry)))) ⌝ }
+{
+    let first = PAGE_BYTES * k + at % PAGE_BYTES;
+    let last = first + buffer.len();
+    memory::copy(buffer, &frames[first..last]);
+}
+
+// The current bytes of a file from `at` on, none of whose pages is cached, fill the buffer. The file has this floor.
+fn read_stored(media: &[u8], floor: usize, file: usize, at: usize, buffer: &mut [u8])
+    requires { ⌜ (length (now media) ≡ mediaBytes pagesPerFile) × (file < files) × (at + length (now buffer) ≤ fileBytes pagesPerFile) ⌝ }
+    ensures { λ r. ⌜ ((stored frames : List ℕ) (c : CacheState)
+        → ((p : ℕ) → at / pageBytes ≤ p → pageBytes * p < at + length (now (buffer .entry)) → slotCount ≤ firstIndex (holds file p) (c .slots))
+        → floor ≡ getD (c .floor) file 0
+        → now (buffer .exit) ≡ currentBytes pagesPerFile (deviceOf (mediaOf (now (media .entry)) stored) frames c) file at (length (now (buffer .entry)))) ⌝ }
 {
     let n = buffer.len();
-    if k < SLOTS {
-        let first = PAGE_BYTES * k + at % PAGE_BYTES;
-        let last = first + n;
-        memory::copy(buffer, &frames[first..last]);
-    } else {
-        let from = file * (PAGE_BYTES * pages) + at;
-        let end = from + number::min(n, number::saturating_sub(floor, at));
-        memory::copy_padded(buffer, &media[from..end]);
+    let from = file * (PAGE_BYTES * PAGES_PER_FILE) + at;
+    let end = from + number::min(n, number::saturating_sub(floor, at));
+    memory::copy_padded(buffer, &media[from..end]);
+}
+
+// The first page of a file from `page` on, below `last`, that is cached, or `last`.
+fn cached_from(slots: &[u8; cache_state::TABLE], file: usize, page: usize, last: usize) -> usize
+    requires { ⌜ (file < files) × (page ≤ last) × (last ≤ pagesPerFile) × ((i : ℕ) → getD (now slots) i 0 ≤ slotCount) ⌝ }
+    ensures { λ r. ⌜ (page ≤ r) × (r ≤ last) × ((p : ℕ) → page ≤ p → p < r → slotCount ≤ getD (now (slots .entry)) (pagesPerFile * file + p) 0)
+        × (r < last → getD (now (slots .entry)) (pagesPerFile * file + r) 0 < slotCount) ⌝ }
+{
+    let mut p = page;
+    while p < last {
+        let k = slots[PAGES_PER_FILE * file + p] as usize;
+        if k < SLOTS {
+            return p;
+        }
+        p += 1;
     }
+    last
 }
 
 // `count` current bytes of a file from a position on fill the front of the buffer. The table has the slot of each page, and the file
-// has this floor.
+// has this floor. Pages that are not cached and lie one behind the other are read in one piece.
 fn read_pages(
     media: &[u8],
     frames: &[u8],
@@ -96,22 +110,21 @@ fn read_pages(
     ensures { λ r. ⌜ ((stored : List ℕ) (c : CacheState) → now (slots .entry) ≡ slotTable pagesPerFile (c .slots) → floor ≡ getD (c .floor) file 0
         → now (buffer .exit) ≡ overwrite (now (buffer .entry)) 0 (currentBytes pagesPerFile (deviceOf (mediaOf (now (media .entry)) stored) (now (frames .entry)) c) file position count)) ⌝ }
 {
+    let pages = (position + count + PAGE_BYTES - 1) / PAGE_BYTES;
     let mut i = 0;
     while i < count {
         let at = position + i;
         let k = slots[PAGES_PER_FILE * file + at / PAGE_BYTES] as usize;
-        let to = i + number::min(PAGE_BYTES - at % PAGE_BYTES, count - i);
-        read_page(
-            media,
-            frames,
-            floor,
-            file,
-            at,
-            k,
-            &mut buffer[i..to],
-            PAGES_PER_FILE,
-        );
-        i = to;
+        if k < SLOTS {
+            let to = i + number::min(PAGE_BYTES - at % PAGE_BYTES, count - i);
+            read_frame(frames, at, k, &mut buffer[i..to]);
+            i = to;
+        } else {
+            let stop = cached_from(slots, file, at / PAGE_BYTES + 1, pages);
+            let to = number::min(PAGE_BYTES * stop - position, count);
+            read_stored(media, floor, file, at, &mut buffer[i..to]);
+            i = to;
+        }
     }
 }
 

@@ -1,29 +1,41 @@
 -- `reading::read_pages` meets its contract: after i bytes the front of the buffer has the first i current bytes.
 use mathlib.Core.Path.{_≡_, sym, _∙_, ap}
 use mathlib.Core.List.{List}
-use Prim.Native.Nat.{ℕ, _+_, _*_, _-_, _/_, _≤_}
+use Prim.Native.Nat.{ℕ, _+_, _*_, _-_, _/_, _<_, _≤_}
 use native.Mathlib.Omega.{arith}
 use lib.ListN.{length, getD}
 use borrow.Author.Needs.{needs}
-use Rattle.memory.specs.Bytes.{overwrite}
-use Rattle.memory.proofs.Bytes.{length-put, overwrite-none}
+use Rattle.memory.specs.Bytes.{part, overwrite}
+use Rattle.memory.proofs.Bytes.{length-part, length-put, overwrite-none}
+use Rattle.memory.proofs.Cases.{split-lt}
 use Rattle.media.specs.Geometry.{pageBytes, pagesPerFile}
 use Rattle.media.specs.Write.{mediaOf}
+use Rattle.scan.specs.Scan.{firstIndex}
 use Rattle.device.specs.declared.CacheState.{CacheState}
-use Rattle.device.specs.Device.{deviceOf}
+use Rattle.device.specs.Device.{deviceOf, slotCount, holds}
 use Rattle.device.specs.Current.{currentBytes}
 use Rattle.device.proofs.Reading.{read-step}
 use Rattle.cache_state.specs.Tables.{slotTable}
 use Rattle.cache_state.proofs.Pass.{table-slot}
+use Rattle.reading.proofs.Stored.{read-to}
 use Rattle.reading.proofs.read_pages.Statement.{statement}
 use Rattle.reading.proofs.read_pages.Tie as tie
 
 abbrev Inv-loop : tie.InvT-loop
-Inv-loop media frames slots floor file position count buffer₀ i₀ buffer i = ((stored : List ℕ) (c : CacheState) → slots ≡ slotTable pagesPerFile (c .slots) → floor ≡ getD (c .floor) file 0
+Inv-loop media frames slots floor file position count buffer₀ pages i₀ buffer i = ((stored : List ℕ) (c : CacheState) → slots ≡ slotTable pagesPerFile (c .slots) → floor ≡ getD (c .floor) file 0
     → buffer ≡ overwrite buffer₀ 0 (currentBytes pagesPerFile (deviceOf (mediaOf media stored) frames c) file position i)) × (i ≤ count) × (length buffer ≡ length buffer₀)
 
 abbrev μ-loop : tie.MeasureT-loop
-μ-loop media frames slots floor file position count buffer₀ i₀ buffer i = count - i
+μ-loop media frames slots floor file position count buffer₀ pages i₀ buffer i = count - i
+
+add-pages : tie.Need-add-pages Inv-loop μ-loop
+add-pages c = search needs
+
+add-pages-2 : tie.Need-add-pages-2 Inv-loop μ-loop
+add-pages-2 c = search needs
+
+sub-pages : tie.Need-sub-pages Inv-loop μ-loop
+sub-pages c = search needs
 
 loop-holds : tie.Need-loop-holds Inv-loop μ-loop
 loop-holds c = (λ stored d e-slots e-floor. sym (overwrite-none _ 0), search needs, search needs)
@@ -58,17 +70,17 @@ min-requires c κs = search needs
 add-to : tie.Need-add-to Inv-loop μ-loop
 add-to c = search needs
 
-sub-read-page : tie.Need-sub-read-page Inv-loop μ-loop
-sub-read-page c = search needs
+sub-read-frame : tie.Need-sub-read-frame Inv-loop μ-loop
+sub-read-frame c = search needs
 
-part-read-page-start : tie.Need-part-read-page-start Inv-loop μ-loop
-part-read-page-start c = search needs
+part-read-frame-start : tie.Need-part-read-frame-start Inv-loop μ-loop
+part-read-frame-start c = search needs
 
-part-read-page-end : tie.Need-part-read-page-end Inv-loop μ-loop
-part-read-page-end c = search needs
+part-read-frame-end : tie.Need-part-read-frame-end Inv-loop μ-loop
+part-read-frame-end c = search needs
 
-read-page-requires : tie.Need-read-page-requires Inv-loop μ-loop
-read-page-requires c κs = (omega arith, search needs, search needs, search needs, omega arith, omega arith)
+read-frame-requires : tie.Need-read-frame-requires Inv-loop μ-loop
+read-frame-requires c κs = (search needs, omega arith, omega arith)
 
 loop-less : tie.Need-loop-less Inv-loop μ-loop
 loop-less c = search needs
@@ -77,16 +89,77 @@ loop-again : tie.Need-loop-again Inv-loop μ-loop
 loop-again c =
     let p = c .before .before in
     let n = p .before .before in
-    let l = n .before .before .before in
+    let l = n .before .before .before .before in
     let a = l .before .before .before .before .args in
     let i = l .loop .i in
     let page = (a .position + i) / pageBytes in
+    let left = p .read-frame .last .1 .1 .1 .0 in
     let fits : i + n .min .result ≤ length (l .loop .buffer) = omega arith in (
       λ stored d e-slots e-floor.
           let e-k = ap (λ (t : List ℕ). getD t (pagesPerFile * a .file + page) 0) e-slots ∙ table-slot (d .slots) (a .file) page (omega arith) (omega arith) in
-          read-step pagesPerFile (deviceOf (mediaOf (a .media .now) stored) (a .frames .now) d) (a .file) (a .buffer .now) (l .loop .buffer) (p .read-page .last .1 .1 .1 .1 .1 .1 .0) (a .position) i (n .min .result) (l .loop .inv .0 stored d e-slots e-floor) (p .read-page .ensures stored d e-k e-floor) fits,
+          read-step pagesPerFile (deviceOf (mediaOf (a .media .now) stored) (a .frames .now) d) (a .file) (a .buffer .now) (l .loop .buffer) left (a .position) i (n .min .result) (l .loop .inv .0 stored d e-slots e-floor) (p .read-frame .ensures (mediaOf (a .media .now) stored) d (a .file) e-k) fits,
       omega arith,
-      length-put i (i + n .min .result) (l .loop .buffer) (p .read-page .last .1 .1 .1 .1 .1 .1 .0) (omega (arith, p .read-page .kept)) (omega arith) fits ∙ l .loop .inv .2,
+      length-put i (i + n .min .result) (l .loop .buffer) left (omega (arith, p .read-frame .kept)) (omega arith) fits ∙ l .loop .inv .2,
+    )
+
+add-cached-from : tie.Need-add-cached-from Inv-loop μ-loop
+add-cached-from c = search needs
+
+cached-from-requires : tie.Need-cached-from-requires Inv-loop μ-loop
+cached-from-requires c κs =
+    let s = c .before .before .before .before .before .before .before in
+    (search needs, omega arith, omega arith, s .pre .5)
+
+mul-min : tie.Need-mul-min Inv-loop μ-loop
+mul-min c = search needs
+
+sub-min-3 : tie.Need-sub-min-3 Inv-loop μ-loop
+sub-min-3 c = search needs
+
+min-requires-2 : tie.Need-min-requires-2 Inv-loop μ-loop
+min-requires-2 c κs = search needs
+
+sub-read-stored : tie.Need-sub-read-stored Inv-loop μ-loop
+sub-read-stored c = search needs
+
+part-read-stored-start : tie.Need-part-read-stored-start Inv-loop μ-loop
+part-read-stored-start c = search needs
+
+part-read-stored-end : tie.Need-part-read-stored-end Inv-loop μ-loop
+part-read-stored-end c = search needs
+
+read-stored-requires : tie.Need-read-stored-requires Inv-loop μ-loop
+read-stored-requires c κs = (search needs, search needs, omega arith)
+
+loop-less-2 : tie.Need-loop-less-2 Inv-loop μ-loop
+loop-less-2 c = search needs
+
+loop-again-2 : tie.Need-loop-again-2 Inv-loop μ-loop
+loop-again-2 c =
+    let p = c .before .before in
+    let n = p .before .before in
+    let f = n .before in
+    let l = f .before .before .before .before in
+    let a = l .before .before .before .before .args in
+    let i = l .loop .i in
+    let at : ℕ = a .position + i in
+    let to : ℕ = n .min2 .result in
+    let left = p .read-stored .last .1 .1 .1 .1 .0 in
+    let fits : to ≤ length (l .loop .buffer) = omega arith in
+    let more : i < to = omega (arith, f .cached-from .ensures .0) in
+    let lp : length (part (l .loop .buffer) i (to - i)) ≡ to - i = length-part (l .loop .buffer) i (to - i) (omega arith) in (
+      λ stored d e-slots e-floor.
+          let none : (q : ℕ) → at / pageBytes ≤ q → pageBytes * q < at + length (part (l .loop .buffer) i (to - i)) → slotCount ≤ firstIndex (holds (a .file) q) (d .slots) =
+          λ q lo hi.
+          let below : q < f .cached-from .result = omega arith in
+          let e-q : getD (a .slots .now) (pagesPerFile * a .file + q) 0 ≡ firstIndex (holds (a .file) q) (d .slots) =
+          ap (λ (t : List ℕ). getD t (pagesPerFile * a .file + q) 0) e-slots ∙ table-slot (d .slots) (a .file) q (omega arith) (omega (arith, f .cached-from .ensures .1)) in
+          split-lt (at / pageBytes) q
+          (λ h. omega (arith, e-q, f .cached-from .ensures .2 q (omega arith) below))
+          (λ h. let e : at / pageBytes ≡ q = omega arith in let z : slotCount ≤ getD (a .slots .now) (pagesPerFile * a .file + at / pageBytes) 0 = omega arith in omega (arith, e-q, rw e at z)) in
+          read-to pagesPerFile (deviceOf (mediaOf (a .media .now) stored) (a .frames .now) d) (a .file) (a .buffer .now) (l .loop .buffer) left (a .position) i to (omega arith) (l .loop .inv .0 stored d e-slots e-floor) (p .read-stored .ensures stored (a .frames .now) d none e-floor) fits,
+      omega arith,
+      length-put i to (l .loop .buffer) left (omega (arith, p .read-stored .kept)) (omega arith) fits ∙ l .loop .inv .2,
     )
 
 same-length : tie.Need-same-length Inv-loop μ-loop
@@ -105,6 +178,9 @@ read-pages-spec =
     (tie.spec
     Inv-loop
     μ-loop
+    add-pages
+    add-pages-2
+    sub-pages
     loop-holds
     add-at
     mul-k
@@ -115,11 +191,22 @@ read-pages-spec =
     sub-min-2
     min-requires
     add-to
-    sub-read-page
-    part-read-page-start
-    part-read-page-end
-    read-page-requires
+    sub-read-frame
+    part-read-frame-start
+    part-read-frame-end
+    read-frame-requires
     loop-less
     loop-again
+    add-cached-from
+    cached-from-requires
+    mul-min
+    sub-min-3
+    min-requires-2
+    sub-read-stored
+    part-read-stored-start
+    part-read-stored-end
+    read-stored-requires
+    loop-less-2
+    loop-again-2
     same-length
     returns)

@@ -1,0 +1,73 @@
+-- `reading::cached_from` meets its contract: none of the pages before p is cached.
+use mathlib.Core.Path.{_≡_}
+use Prim.Native.Nat.{ℕ, _+_, _*_, _-_, _<_, _≤_}
+use native.Mathlib.Omega.{arith}
+use lib.ListN.{getD}
+use borrow.Author.Needs.{needs}
+use Rattle.memory.proofs.Cases.{split-lt}
+use Rattle.media.specs.Geometry.{pagesPerFile}
+use Rattle.device.specs.Device.{slotCount}
+use Rattle.reading.proofs.cached_from.Statement.{statement}
+use Rattle.reading.proofs.cached_from.Tie as tie
+
+abbrev Inv-loop : tie.InvT-loop
+Inv-loop slots file page last p₀ p = (page ≤ p) × (p ≤ last) × ((q : ℕ) → page ≤ q → q < p → slotCount ≤ getD slots (pagesPerFile * file + q) 0)
+
+abbrev μ-loop : tie.MeasureT-loop
+μ-loop slots file page last p₀ p = last - p
+
+loop-holds : tie.Need-loop-holds Inv-loop μ-loop
+loop-holds c = (search needs, search needs, λ q h k. omega arith)
+
+mul-k : tie.Need-mul-k Inv-loop μ-loop
+mul-k c = search needs
+
+add-k : tie.Need-add-k Inv-loop μ-loop
+add-k c = search needs
+
+element-copy-out-k : tie.Need-element-copy-out-k Inv-loop μ-loop
+element-copy-out-k c = search needs
+
+cast-k : tie.Need-cast-k Inv-loop μ-loop
+cast-k c =
+    let l = c .before .before in
+    let s = l .before in
+    omega (arith, s .pre .3 (pagesPerFile * s .args .file + l .loop .p))
+
+returns : tie.Need-returns Inv-loop μ-loop
+returns c =
+    let v = c .before .before .before .loop .inv in
+    (v .0, v .1, v .2, λ h. omega arith)
+
+add-p : tie.Need-add-p Inv-loop μ-loop
+add-p c = search needs
+
+loop-less : tie.Need-loop-less Inv-loop μ-loop
+loop-less c = search needs
+
+loop-again : tie.Need-loop-again Inv-loop μ-loop
+loop-again c =
+    let l = c .before .before .before in
+    (omega arith, omega arith, λ q h k. split-lt q (l .loop .p) (λ lo. l .loop .inv .2 q h lo) (λ hi. let e : q ≡ l .loop .p = omega arith in rw e (omega arith)))
+
+returns-2 : tie.Need-returns-2 Inv-loop μ-loop
+returns-2 c =
+    let l = c .before in
+    (omega arith, omega arith, λ q h k. l .loop .inv .2 q h (omega arith), λ h. absurd (omega arith))
+
+pub cached-from-spec : {M : Type 1} → statement M
+cached-from-spec =
+    tie.close
+    (tie.spec
+    Inv-loop
+    μ-loop
+    loop-holds
+    mul-k
+    add-k
+    element-copy-out-k
+    cast-k
+    returns
+    add-p
+    loop-less
+    loop-again
+    returns-2)
