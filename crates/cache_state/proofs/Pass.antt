@@ -8,7 +8,7 @@ use native.Mathlib.Nat.{not-suc-le-zero, le-of-suc-le-suc, add-zero}
 use native.Mathlib.Numerals.{add-one}
 use native.Mathlib.Omega.{arith}
 use lib.Dec.{ltb, leb, eqb}
-use lib.ListN.{length, getD, set, length-set, length-replicate, getD-replicate}
+use lib.ListN.{length, getD, set, length-set, length-replicate, getD-replicate, List·getD-eq-default}
 use lib.Seq.{ext-getD, getD-set-same, getD-set-other}
 use borrow.Author.Tests.{ltb-true, ltb-false, lt-ltb, le-ltb, eq-eqb, ne-eqb, le-leb, lt-leb, eqb-true}
 use Rattle.memory.proofs.Cases.{split-lt, split-eq}
@@ -37,7 +37,7 @@ from-at P slots (suc n) i (suc j) h =
     let e : suc i + j ≡ i + suc j = omega arith in
     from-at P slots n (suc i) j (le-of-suc-le-suc h) ∙ rw e
 
-pub length-table : (P : ℕ) (slots : List Slot) → length (slotTable P slots) ≡ files * P
+length-table : (P : ℕ) (slots : List Slot) → length (slotTable P slots) ≡ files * P
 unfolding slotTable
 length-table P slots = length-from P slots (files * P) 0
 
@@ -53,6 +53,14 @@ table-slot slots f p hf hp =
     let b : (pagesPerFile * f + p) % pagesPerFile ≡ p = omega arith in
     table-at pagesPerFile slots (pagesPerFile * f + p) (omega arith) ∙ rw (a, b)
 
+-- an entry is a slot, or slotCount
+pub table-most : (slots : List Slot) (table : List ℕ) → length slots ≡ slotCount → table ≡ slotTable pagesPerFile slots → (i : ℕ) → getD table i 0 ≤ slotCount
+table-most slots table l e i =
+    rw e
+    (split-lt i (files * pagesPerFile)
+    (λ h. omega (arith, table-at pagesPerFile slots i h, first-le (holds (i / pagesPerFile) (i % pagesPerFile)) slots))
+    (λ h. let z : getD (slotTable pagesPerFile slots) i 0 ≡ 0 = List·getD-eq-default (slotTable pagesPerFile slots) 0 (omega (arith, length-table pagesPerFile slots)) in omega arith))
+
 -- ---- the pass
 
 -- two pages have two places
@@ -60,7 +68,7 @@ same-place : (f p g q : ℕ) → p < pagesPerFile → q < pagesPerFile → pages
 same-place f p g q hp hq e = (omega arith, omega arith)
 
 -- what a slot in range names
-range-is : (s : Slot) → inRange pagesPerFile s ≡ true → s .used ≡ true → (s .file < files) × (s .page < pagesPerFile)
+pub range-is : (s : Slot) → inRange pagesPerFile s ≡ true → s .used ≡ true → (s .file < files) × (s .page < pagesPerFile)
 unfolding inRange
 range-is s e u =
     let r : ltb (s .file) files && ltb (s .page) pagesPerFile ≡ true = rw u at e in

@@ -10,7 +10,9 @@ use lib.ListN.{length, getD}
 use borrow.Author.Tests.{eq-eqb, ne-eqb, le-leb, lt-leb}
 use borrow.Table.Steps.{cases}
 use Rattle.answer.specs.declared.Refusal.{Refusal}
-use Rattle.answer.specs.Coded.{Coded, done, BOOKS, codedRefusal}
+use Rattle.answer.specs.declared.Answer.{Answer}
+use Rattle.answer.specs.declared.Answer.the-variants.{Done}
+use Rattle.answer.specs.Coded.{Coded, done, BOOKS, codedRefusal, coded}
 use Rattle.answer.specs.Admission.{firstRefusal}
 use Rattle.answer.proofs.Coded.{refusal-number}
 use Rattle.media.specs.Geometry.{files, fileBytes, pagesPerFile}
@@ -115,6 +117,10 @@ module _ (r : Refusal) (slots : List Slot) where
 pub table-done : (n : ℕ) (slots : List Slot) → slotTable pagesPerFile slots ≡ tableAfter (done n) slots
 unfolding tableAfter
 table-done n slots = refl
+
+-- where the answer is done
+pub table-is : (a : Answer) (n : ℕ) (slots : List Slot) (table : List ℕ) → a ≡ Done n → table ≡ tableAfter (coded a) slots → table ≡ slotTable pagesPerFile slots
+table-is a n slots table q e = (rw q at e) ∙ sym (table-done n slots)
 
 -- the tests of a sound state
 module _ (stored bytes : List ℕ) (f : ℕ) (range : Bool) where

@@ -98,26 +98,30 @@ module _ (P : ℕ) (d : Device) (f : ℕ) where
         ∙ ap (λ (j : ℕ). getD (d .frames) j 0) (let z : (i + r) % pageBytes ≡ i % pageBytes + r = omega arith in rw (← e, z) (omega arith))
         ∙ sym (current-at P d f i n r (omega arith) ∙ current-cached P d f (i + r) (i / pageBytes) (omega arith) (omega arith)))
 
-    pub bytes-media : slotCount ≤ k → f < files → i + n ≤ fileBytes P → length (d .media .bytes) ≡ mediaBytes P
-        → overwrite (zeros n) 0 (part (d .media .bytes) (fileStart P f + i) (min n (floorAt d f - i))) ≡ currentBytes P d f i n
-    bytes-media h hf fits lm =
-        let a : ℕ = fileStart P f + i in
-        let m : ℕ = min n (floorAt d f - i) in
-        let over : List ℕ = part (d .media .bytes) a m in
-        let lo : length over ≡ m = length-part (d .media .bytes) a m (omega (arith, file-end P f hf)) in
-        let lz : length (zeros n) ≡ n = length-replicate {A = ℕ} n 0 in
-        ext-getD 0 (overwrite (zeros n) 0 over) (currentBytes P d f i n) (length-overwrite (zeros n) 0 over ∙ lz ∙ sym (length-current P d f i n)) (λ r hr.
-        let l : r < n = omega (arith, length-overwrite (zeros n) 0 over) in
-        split-lt (i + r) (floorAt d f)
-        (λ low.
-        overwrite-in (zeros n) 0 over r (omega arith) (omega arith) (omega arith)
-        ∙ getD-part (d .media .bytes) a m (r - 0) (omega arith)
-        ∙ ap (λ (j : ℕ). getD (d .media .bytes) j 0) (omega arith)
-        ∙ sym (current-at P d f i n r l ∙ current-media P d f (i + r) (i / pageBytes) (omega arith) (omega arith) low))
-        (λ high.
-        overwrite-after (zeros n) 0 over r (omega arith)
-        ∙ getD-zeros n r
-        ∙ sym (current-at P d f i n r l ∙ current-zero P d f (i + r) (i / pageBytes) (omega arith) (omega arith) high)))
+  -- n of them from i on, none of whose pages is cached
+  pub bytes-stored : (i n : ℕ) → ((p : ℕ) → i / pageBytes ≤ p → pageBytes * p < i + n → slotCount ≤ slotOf d f p)
+      → f < files → i + n ≤ fileBytes P → length (d .media .bytes) ≡ mediaBytes P
+      → overwrite (zeros n) 0 (part (d .media .bytes) (fileStart P f + i) (min n (floorAt d f - i))) ≡ currentBytes P d f i n
+  bytes-stored i n none hf fits lm =
+      let a : ℕ = fileStart P f + i in
+      let m : ℕ = min n (floorAt d f - i) in
+      let over : List ℕ = part (d .media .bytes) a m in
+      let lo : length over ≡ m = length-part (d .media .bytes) a m (omega (arith, file-end P f hf)) in
+      let lz : length (zeros n) ≡ n = length-replicate {A = ℕ} n 0 in
+      ext-getD 0 (overwrite (zeros n) 0 over) (currentBytes P d f i n) (length-overwrite (zeros n) 0 over ∙ lz ∙ sym (length-current P d f i n)) (λ r hr.
+      let l : r < n = omega (arith, length-overwrite (zeros n) 0 over) in
+      let q : ℕ = (i + r) / pageBytes in
+      let h : slotCount ≤ slotOf d f q = none q (omega arith) (omega arith) in
+      split-lt (i + r) (floorAt d f)
+      (λ low.
+      overwrite-in (zeros n) 0 over r (omega arith) (omega arith) (omega arith)
+      ∙ getD-part (d .media .bytes) a m (r - 0) (omega arith)
+      ∙ ap (λ (j : ℕ). getD (d .media .bytes) j 0) (omega arith)
+      ∙ sym (current-at P d f i n r l ∙ current-media P d f (i + r) q (omega arith) h low))
+      (λ high.
+      overwrite-after (zeros n) 0 over r (omega arith)
+      ∙ getD-zeros n r
+      ∙ sym (current-at P d f i n r l ∙ current-zero P d f (i + r) q (omega arith) h high)))
 
   pub current-join : (i n k : ℕ) → currentBytes P d f i (n + k) ≡ currentBytes P d f i n ++ currentBytes P d f (i + n) k
   current-join i zero k = let e : zero + k ≡ k = omega arith in let z : i + 0 ≡ i = omega arith in rw (e, z)

@@ -1,42 +1,31 @@
 -- How a sync on the bytes of a state ends: refused, cut or done.
 use mathlib.Core.Path.{_≡_, refl, sym, ap, _∙_}
-use mathlib.Core.Bool.{true, false, false≢true}
-use mathlib.Core.List.{List, []}
+use mathlib.Core.Bool.{true}
+use mathlib.Core.List.{List}
 use Prim.Native.Nat.{ℕ, _≤_, _<_}
 use native.Mathlib.Omega.{arith}
-use lib.Dec.{eqb}
 use lib.ListN.{length}
-use borrow.Author.Tests.{eq-eqb, ne-eqb, lt-ltb, le-ltb}
+use borrow.Author.Tests.{eq-eqb, lt-ltb, le-ltb}
 use Rattle.answer.specs.declared.Refusal.{Refusal}
-use Rattle.answer.specs.Coded.{Coded, done, CUT, codedRefusal}
+use Rattle.answer.specs.Coded.{done, CUT, codedRefusal}
 use Rattle.answer.specs.Admission.{firstRefusal}
-use Rattle.answer.proofs.Coded.{refusal-number}
-use Rattle.answer.proofs.Admission.{passed, first-by}
+use Rattle.answer.proofs.Admission.{passed}
 use Rattle.media.specs.Write.{Media}
 use Rattle.device.specs.Device.{Device, deviceOf, downState}
-use Rattle.device.specs.Admission.{give, mediaShape, framesShape, sizesFit, stateTests, fileTests}
+use Rattle.device.specs.Admission.{give, fileTests}
 use Rattle.device.specs.Plan.{budgeted, Spent}
 use Rattle.device.specs.Syncing.{syncPlan, syncedState, sync}
-use Rattle.device.proofs.Admission.{admit-refused, file-changeless}
+use Rattle.device.proofs.Admission.{admit-refused}
 use Rattle.device.proofs.Plan.{plan-ends}
 use Rattle.state_bytes.specs.Encoding.{stateBytes, encode, encoded, decode}
-use Rattle.state_bytes.specs.InPlace.{Lent, lent, deviceIn, IsEncoded, leavesState, onState}
-use Rattle.state_bytes.proofs.OnState.{done-on, refused-on}
-
--- a refusal of the tests of a call on a file leaves the state
-refusal-keeps : (P : ℕ) (d : Device) (f : ℕ) (x : Refusal) → codedRefusal x ≡ firstRefusal (fileTests P d f true) (done 0) → leavesState (codedRefusal x) ≡ false
-unfolding mediaShape framesShape sizesFit stateTests
-refusal-keeps P d f x e =
-    (rw (← e) at
-    (first-by (λ (a : Coded). eqb (a .number) 0 ≡ false → leavesState a ≡ false) (fileTests P d f true) (done 0) (file-changeless P d f true [] tt)
-    (λ k lo hi n. rw (n, ne-eqb k 9 hi))
-    (λ _ n. absurd (false≢true (sym n))))) (refusal-number x)
+use Rattle.state_bytes.specs.InPlace.{Lent, lent, deviceIn, IsEncoded, onState}
+use Rattle.state_bytes.proofs.OnState.{done-on, refused-on, refused-leaves}
 
 module _ (P f budget : ℕ) (l : Lent) where
   pub refused-ends : (x : Refusal) → codedRefusal x ≡ firstRefusal (fileTests P (deviceIn l) f true) (done 0) → give (codedRefusal x) l ≡ onState (sync P f budget) l
   unfolding sync
   refused-ends x e =
-      refused-on (sync P f budget) l (codedRefusal x) (deviceIn l) (sym (admit-refused (fileTests P (deviceIn l) f true) (deviceIn l) _ x e)) (refusal-keeps P (deviceIn l) f x e)
+      refused-on (sync P f budget) l (codedRefusal x) (deviceIn l) (sym (admit-refused (fileTests P (deviceIn l) f true) (deviceIn l) _ x e)) (refused-leaves P f true (deviceIn l) x e)
 
   -- n writes were needed, and the media is m
   module _ (n : ℕ) (m : Media) (x : Spent P budget (l .media) 0 n (syncPlan P (deviceIn l) f) m) (ok : passed (fileTests P (deviceIn l) f true) ≡ true) (after : List ℕ) where

@@ -2,38 +2,23 @@
 use mathlib.Core.Path.{_≡_, refl}
 use mathlib.Core.Bool.{Bool, not}
 use mathlib.Core.List.{List, _++_}
-use Prim.Native.Nat.{ℕ, _+_, _*_, _/_, _%_, _≤_, _<_}
+use Prim.Native.Nat.{ℕ, _+_, _*_, _≤_, _<_}
 use native.Mathlib.Omega.{arith}
 use lib.Dec.{eqb, ltb}
-use lib.ListN.{length, getD, List·getD-eq-default}
+use lib.ListN.{length, getD}
 use mir.Syntax.{w64}
 use mir.Val.{Fits}
 use Rattle.memory.specs.Bytes.{part}
-use Rattle.memory.proofs.Cases.{split-lt}
 use Rattle.media.specs.Geometry.{files, pagesPerFile, pageBytes}
 use Rattle.media.specs.Write.{Media, MediaWrite, sizeAt}
 use Rattle.media.specs.Write.MediaWrite.{page, size, trim}
-use Rattle.scan.proofs.Scan.{first-le}
-use Rattle.device.specs.declared.Slot.{Slot}
-use Rattle.device.specs.Device.{Device, slotCount, frameStart, holds, logicalAt, floorAt}
+use Rattle.device.specs.Device.{Device, slotCount, frameStart, logicalAt, floorAt}
 use Rattle.device.specs.Plan.{writeIf, Spent}
 use Rattle.device.specs.Syncing.{trimWrites, pageWrite, pageWrites, sizeWrites, syncPlan}
 use Rattle.device.proofs.Plan.{at-most-one, spent-none, spent-join}
 use Rattle.device.proofs.Syncing.{pages-more}
 use Rattle.cache_state.specs.Tables.{slotTable}
-use Rattle.cache_state.proofs.Pass.{length-table, table-slot}
-
--- the table of a state with as many slots as there are
-pub table-fits : (slots : List Slot) → length slots ≡ slotCount → (i : ℕ) → getD (slotTable pagesPerFile slots) i 0 ≤ slotCount
-table-fits slots e i =
-    split-lt i (files * pagesPerFile)
-    (λ h.
-    let q : pagesPerFile * (i / pagesPerFile) + i % pagesPerFile ≡ i = omega arith in
-    let at = rw q at (table-slot slots (i / pagesPerFile) (i % pagesPerFile) (omega arith) (omega arith)) in
-    omega (arith, e, at, first-le (holds (i / pagesPerFile) (i % pagesPerFile)) slots))
-    (λ h.
-    let l : length (slotTable pagesPerFile slots) ≤ i = omega (arith, length-table pagesPerFile slots) in
-    omega (arith, List·getD-eq-default (slotTable pagesPerFile slots) 0 l))
+use Rattle.cache_state.proofs.Pass.{table-slot}
 
 -- an entry that a slot can have fits a word
 pub entry-fits : (table : List ℕ) → ((i : ℕ) → getD table i 0 ≤ slotCount) → (i : ℕ) → Fits w64 (getD table i 0)

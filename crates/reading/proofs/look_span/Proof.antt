@@ -13,7 +13,8 @@ use Rattle.device.proofs.Admission.{Admitted, file-passed, file-refused, file-r
 use Rattle.device.proofs.Looking.{span-refused, span-cached, span-media}
 use Rattle.state_bytes.specs.Encoding.{decode}
 use Rattle.state_bytes.proofs.InPlace.{shaped}
-use Rattle.reading.proofs.Slots.{table-is, table-most}
+use Rattle.cache_state.proofs.Soundness.{table-is}
+use Rattle.cache_state.proofs.Pass.{table-most}
 use Rattle.reading.proofs.look_span.Statement.{statement}
 use Rattle.reading.proofs.look_span.Tie as tie
 

@@ -14,7 +14,8 @@ use Rattle.device.proofs.Reading.{read-refused, read-done}
 use Rattle.state_bytes.specs.Encoding.{decode}
 use Rattle.state_bytes.proofs.InPlace.{shaped}
 use Rattle.cache_state.specs.Tables.{slotTable}
-use Rattle.reading.proofs.Slots.{table-is, table-most}
+use Rattle.cache_state.proofs.Soundness.{table-is}
+use Rattle.cache_state.proofs.Pass.{table-most}
 use Rattle.reading.proofs.read.Statement.{statement}
 use Rattle.reading.proofs.read.Tie as tie
 

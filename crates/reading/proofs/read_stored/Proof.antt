@@ -8,7 +8,7 @@ use Rattle.memory.specs.Bytes.{zeros, part, overwrite}
 use Rattle.media.specs.Geometry.{pagesPerFile, fileStart}
 use Rattle.media.specs.Write.{mediaOf}
 use Rattle.device.specs.Device.{deviceOf}
-use Rattle.reading.proofs.Stored.{bytes-stored}
+use Rattle.device.proofs.Current.{bytes-stored}
 use Rattle.reading.proofs.read_stored.Statement.{statement}
 use Rattle.reading.proofs.read_stored.Tie as tie
 
