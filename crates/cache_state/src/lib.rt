@@ -1,4 +1,5 @@
-// Code on the cache state: the slot of a page, the states that calls leave, sound states, and the order of refusals.
+// What every call on a file begins with, on the bytes of the cache state: the order of refusals, sound states, and the slot of each
+// page. And the states that mount and format leave.
 use answer::Answer;
 use answer::Refusal;
 use device::CacheState;

@@ -1,4 +1,4 @@
-// Read and look: the calls that change nothing on the device.
+// Read and look, on the bytes of the cache state: the calls that change nothing on the device.
 use answer::Answer;
 use device::SLOTS;
 use device::Span;

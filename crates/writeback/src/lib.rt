@@ -1,7 +1,8 @@
 // The calls that write to the media: sync, mount and format.
 //
 // Each carries out a plan of media writes. Where the budget pays for all of them, it is done with their number as count. Where it
-// does not, as many first writes are done as it pays for, the answer is CUT, and the state that comes back is down.
+// does not, as many first writes are done as it pays for, the answer is CUT, and the state that is left is down. Sync works on the bytes
+// of the state; mount and format do not look at it, and take and return it by value.
 use answer::Answer;
 use answer::Refusal;
 use device::CacheState;
