@@ -20,7 +20,7 @@ use Rattle.device.specs.Device.{slotCount, freeSlot, freeWhere, withSlots}
 use Rattle.device.specs.Truncating.{pagesFrom}
 use Rattle.device.specs.Syncing.{pagesOf}
 use Rattle.device.proofs.Syncing.{free-all}
-use Rattle.state_bytes.specs.Encoding.{stateBytes, slotsAt, slotBytes, encode, decode, slotSet, zerosFrom, eightFree}
+use Rattle.state_bytes.specs.Encoding.{stateBytes, slotsAt, slotBytes, encode, decode, elementSet, slotSet, zerosFrom, eightFree}
 use Rattle.state_bytes.specs.InPlace.{IsEncoded}
 use Rattle.state_bytes.specs.Inverse.{Shaped}
 use Rattle.state_bytes.proofs.Inverse.{inverse}
@@ -66,7 +66,7 @@ module _ (f n : ℕ) (bytes state : List ℕ) where
 -- ---- the length of the bytes stays
 
 pub length-slot-set : (bytes : List ℕ) (k : ℕ) (x : Slot) → length (slotSet bytes k x) ≡ length bytes
-unfolding slotSet
+unfolding elementSet
 length-slot-set bytes k x =
     cases (eqb (length bytes) stateBytes && ltb k slotCount)
     (λ e. rw e (length-overwrite bytes (slotsAt + 3 * k) (slotBytes x)))

@@ -22,44 +22,25 @@ use Rattle.device.proofs.Device.{holds-own, holds-one}
 use Rattle.state_bytes.specs.Encoding.{stateBytes, slotsAt, slotIn, slotsIn, isState, eightFree}
 use Rattle.state_bytes.proofs.Encoding.{length-each, getD-each}
 use Rattle.state_bytes.proofs.Zeros.{zeros-at}
-use Rattle.cache_state.specs.Tables.{noneCached, slotsFrom, slotTable, slotsPass, slotBelow, Passed}
+use Rattle.cache_state.specs.Tables.{noneCached, slotTable, slotFor, slotsPass, slotBelow, Passed}
 
 -- ---- the table of all slots
 
-length-from : (P : ℕ) (slots : List Slot) (n i : ℕ) → length (slotsFrom P slots n i) ≡ n
-length-from P slots zero i = refl
-length-from P slots (suc n) i = ap suc (length-from P slots n (suc i))
-
-from-at : (P : ℕ) (slots : List Slot) (n i j : ℕ) → j < n → getD (slotsFrom P slots n i) j 0 ≡ firstIndex (holds ((i + j) / P) ((i + j) % P)) slots
-from-at P slots zero i j h = absurd (not-suc-le-zero h)
-from-at P slots (suc n) i zero h = let e : i + 0 ≡ i = omega arith in rw e
-from-at P slots (suc n) i (suc j) h =
-    let e : suc i + j ≡ i + suc j = omega arith in
-    from-at P slots n (suc i) j (le-of-suc-le-suc h) ∙ rw e
-
 length-table : (P : ℕ) (slots : List Slot) → length (slotTable P slots) ≡ files * P
 unfolding slotTable
-length-table P slots = length-from P slots (files * P) 0
+length-table P slots = length-each (files * P) (λ i. firstIndex (holds (i / P) (i % P)) slots)
 
 table-at : (P : ℕ) (slots : List Slot) (j : ℕ) → j < files * P → getD (slotTable P slots) j 0 ≡ firstIndex (holds (j / P) (j % P)) slots
 unfolding slotTable
-table-at P slots j h = let e : 0 + j ≡ j = omega arith in from-at P slots (files * P) 0 j h ∙ rw e
+table-at P slots j h = getD-each (files * P) (λ i. firstIndex (holds (i / P) (i % P)) slots) j 0 h
 
--- the place of a page
-pub table-slot : (slots : List Slot) (f p : ℕ) → f < files → p < pagesPerFile
-    → getD (slotTable pagesPerFile slots) (pagesPerFile * f + p) 0 ≡ firstIndex (holds f p) slots
-table-slot slots f p hf hp =
+-- the slot of a page that there is
+pub slot-for : (slots : List Slot) (table : List ℕ) (f p : ℕ) → table ≡ slotTable pagesPerFile slots → f < files → p < pagesPerFile → slotFor table f p ≡ firstIndex (holds f p) slots
+unfolding slotFor
+slot-for slots table f p e hf hp =
     let a : (pagesPerFile * f + p) / pagesPerFile ≡ f = omega arith in
     let b : (pagesPerFile * f + p) % pagesPerFile ≡ p = omega arith in
-    table-at pagesPerFile slots (pagesPerFile * f + p) (omega arith) ∙ rw (a, b)
-
--- an entry is a slot, or slotCount
-pub table-most : (slots : List Slot) (table : List ℕ) → length slots ≡ slotCount → table ≡ slotTable pagesPerFile slots → (i : ℕ) → getD table i 0 ≤ slotCount
-table-most slots table l e i =
-    rw e
-    (split-lt i (files * pagesPerFile)
-    (λ h. omega (arith, table-at pagesPerFile slots i h, first-le (holds (i / pagesPerFile) (i % pagesPerFile)) slots))
-    (λ h. let z : getD (slotTable pagesPerFile slots) i 0 ≡ 0 = List·getD-eq-default (slotTable pagesPerFile slots) 0 (omega (arith, length-table pagesPerFile slots)) in omega arith))
+    rw (lt-ltb f files hf, lt-ltb p pagesPerFile hp, e) (table-at pagesPerFile slots (pagesPerFile * f + p) (omega arith) ∙ rw (a, b))
 
 -- ---- the pass
 
@@ -247,14 +228,6 @@ module _ (bytes : List ℕ) where
 
     abbrev here-slot : Bool → Slot
     here-slot b = record { used = b; file = file; page = page }
-
-    -- an entry of the table
-    pub entry-fits : (f p : ℕ) → f < files → p < pagesPerFile → getD table (pagesPerFile * f + p) 0 ≤ slotCount
-    entry-fits f p hf hp =
-        rw (x .entry f p hf hp)
-        (split-lt (firstIndex (holds f p) slots) k
-        (λ h. rw (lt-ltb (firstIndex (holds f p) slots) k h) (omega arith))
-        (λ h. rw (le-ltb (firstIndex (holds f p) slots) k h) (omega arith)))
 
     module _ (u : getD bytes at 0 ≡ 1) where
       used : slotIn bytes at ≡ here-slot true

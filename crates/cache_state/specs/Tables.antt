@@ -1,9 +1,9 @@
 -- The table of slots that admission fills in one pass over the bytes of the state: page p of file f is at place P × f + p, of P pages in
 -- a file.
-use Prim.Native.Nat.{ℕ, zero, suc, _+_, _*_, _/_, _%_, _<_}
+use Prim.Native.Nat.{ℕ, _+_, _*_, _/_, _%_, _<_}
 use mathlib.Core.Path.{_≡_}
 use mathlib.Core.Bool.{Bool, true, cond, _&&_}
-use mathlib.Core.List.{List, [], _∷_}
+use mathlib.Core.List.{List}
 use lib.Dec.{ltb, leb}
 use lib.ListN.{length, getD, replicate}
 use Rattle.answer.specs.Coded.{Coded}
@@ -13,20 +13,19 @@ use Rattle.scan.specs.Scan.{every, everyBelow, firstIndex}
 use Rattle.device.specs.declared.Slot.{Slot}
 use Rattle.device.specs.Device.{slotCount, freeSlot, holds}
 use Rattle.device.specs.Sound.{inRange, holdsAlone}
-use Rattle.state_bytes.specs.Encoding.{slotsAt, slotsIn, isState}
+use Rattle.state_bytes.specs.Encoding.{slotsAt, each, slotsIn, isState}
 
 -- no page is cached
 unfoldable pub noneCached : List ℕ
 noneCached = replicate (files * pagesPerFile) slotCount
 
--- the slots of n pages from place i on, slotCount for a page that is not cached
-abbrev pub slotsFrom : ℕ → List Slot → ℕ → ℕ → List ℕ
-slotsFrom P slots zero i = []
-slotsFrom P slots (suc n) i = firstIndex (holds (i / P) (i % P)) slots ∷ slotsFrom P slots n (suc i)
-
--- the slot of each page of each file
+-- the slot of each page of each file, slotCount for one that is not cached
 unfoldable pub slotTable : ℕ → List Slot → List ℕ
-slotTable P slots = slotsFrom P slots (files * P) 0
+slotTable P slots = each (files * P) (λ i. firstIndex (holds (i / P) (i % P)) slots)
+
+-- the slot that a table has for page p of file f; slotCount where there is no such page
+unfoldable pub slotFor : List ℕ → ℕ → ℕ → ℕ
+slotFor table f p = cond (ltb f files && ltb p pagesPerFile) (getD table (pagesPerFile * f + p) 0) slotCount
 
 -- what admission leaves: the slots of the state, or none on a refusal
 unfoldable pub tableAfter : Coded → List Slot → List ℕ

@@ -16,13 +16,13 @@ ghost use Rattle.answer.specs.Admission.{firstRefusal};
 ghost use Rattle.media.specs.Geometry.{files, fileBytes, pagesPerFile};
 ghost use Rattle.media.specs.Write.{mediaOf};
 ghost use Rattle.scan.specs.Scan.{firstIndex, every, everyBelow};
-ghost use Rattle.device.specs.Device.{deviceOf, slotCount, freeSlot, isFree, downState, mountedState};
+ghost use Rattle.device.specs.Device.{deviceOf, slotCount, isFree, downState, mountedState};
 ghost use Rattle.device.specs.Sizes.{inOrder};
 ghost use Rattle.device.specs.Sound.{sizesIn, isDown, isSound};
 ghost use Rattle.state_bytes.specs.Encoding.{stateBytes, slotsAt, slotsIn, decode};
 ghost use Rattle.state_bytes.specs.InPlace.{IsEncoded};
 ghost use Rattle.cache_state.specs.Freeing.{isFrom, freedSlots};
-ghost use Rattle.cache_state.specs.Tables.{noneCached, slotTable, tableAfter, slotsPass, Passed};
+ghost use Rattle.cache_state.specs.Tables.{noneCached, slotTable, slotFor, tableAfter, slotsPass, Passed};
 ghost use Rattle.device.specs.Admission.{mediaShape, mountedTests, stateTests, mountTests, deviceTests, fileTests};
 
 // A slot for each page of each file.
@@ -41,16 +41,6 @@ pub fn first_free(state: &[u8]) -> usize
         k += 1;
     }
     device::SLOTS
-}
-
-fn free_slot() -> Slot
-    ensures { λ r. ⌜ r ≡ freeSlot ⌝ }
-{
-    Slot {
-        used: false,
-        file: 0,
-        page: 0,
-    }
 }
 
 // Whether a slot holds a page of the file that begins at or past n.
@@ -76,7 +66,7 @@ fn free_eight(state: &mut [u8], k: usize, file: usize, n: usize)
     let mut i = k;
     while i < end {
         if is_from(state_bytes::slot_at(state, i), file, n) {
-            state_bytes::set_slot(state, i, free_slot());
+            state_bytes::set_slot(state, i, device::free_slot());
         }
         i += 1;
     }
@@ -103,7 +93,7 @@ pub fn down_state() -> CacheState
 {
     CacheState {
         mounted: 0,
-        slots: [free_slot(); device::SLOTS],
+        slots: device::no_slots(),
         logical: [0; media::FILES],
         floor: [0; media::FILES],
     }
@@ -115,7 +105,7 @@ pub fn mounted_state(sizes: [u32; media::FILES]) -> CacheState
 {
     CacheState {
         mounted: 1,
-        slots: [free_slot(); device::SLOTS],
+        slots: device::no_slots(),
         logical: sizes,
         floor: sizes,
     }
@@ -232,7 +222,7 @@ pub fn admit_mount(media: &[u8], sizes: &[u32]) -> Answer
 }
 
 // SHAPE of the media and of the page frames, then MEDIA: the first tests of the calls on a file.
-pub fn admit_device(media: &[u8], sizes: &[u32], frames: &[u8]) -> Answer
+fn admit_device(media: &[u8], sizes: &[u32], frames: &[u8]) -> Answer
     ensures { λ r. ⌜ coded r ≡ firstRefusal (deviceTests pagesPerFile (mediaOf (now (media .entry)) (now (sizes .entry))) (now (frames .entry))) (done 0) ⌝ }
 {
     if frames.len() != device::SLOTS * media::PAGE_BYTES {
@@ -254,7 +244,7 @@ fn find_slot(state: &[u8], k: usize, slots: &mut [u8; TABLE]) -> bool
     requires { ⌜ (length (now state) ≡ stateBytes) × (k < slotCount) × Passed (now state) (now slots) k ⌝ }
     ensures { λ r. ⌜ (r ≡ true → Passed (now (state .entry)) (now (slots .exit)) (k + 1)) × (r ≡ false → slotsPass (now (state .entry)) ≡ false) ⌝ }
 {
-    let at = 1 + 3 * k;
+    let at = state_bytes::SLOTS_AT + 3 * k;
     let used = state[at];
     let file = state[at + 1] as usize;
     let page = state[at + 2] as usize;
@@ -262,7 +252,7 @@ fn find_slot(state: &[u8], k: usize, slots: &mut [u8; TABLE]) -> bool
         if file < media::FILES {
             if page < media::PAGES_PER_FILE {
                 let place = media::PAGES_PER_FILE * file + page;
-                let seen = slots[place] as usize;
+                let seen = number::widen(slots[place]);
                 if seen == device::SLOTS {
                     slots[place] = k as u8;
                     return true;
@@ -285,6 +275,7 @@ fn find_slot(state: &[u8], k: usize, slots: &mut [u8; TABLE]) -> bool
     false
 }
 
+// Eight slots from slot k on, in turn.
 fn find_eight(state: &[u8], k: usize, slots: &mut [u8; TABLE]) -> bool
     requires { ⌜ (length (now state) ≡ stateBytes) × (k + 8 ≤ slotCount) × Passed (now state) (now slots) k ⌝ }
     ensures { λ r. ⌜ (r ≡ true → Passed (now (state .entry)) (now (slots .exit)) (k + 8)) × (r ≡ false → slotsPass (now (state .entry)) ≡ false) ⌝ }
@@ -386,7 +377,7 @@ fn admit_mounted(mounted: u8, file: usize, range: bool) -> Answer
 
 // BOOKS, DOWN, NO FILE and RANGE: their other tests, on the bytes of the state. Where they pass, the table has the slot of each
 // page.
-pub fn admit_state(
+fn admit_state(
     sizes: &[u32],
     state: &[u8],
     file: usize,
@@ -412,6 +403,18 @@ pub fn admit_state(
     }
     *slots = none_cached();
     Answer::Refused(Refusal::Books)
+}
+
+// The slot of a page by the table; SLOTS where there is no such page.
+pub fn slot_of(slots: &[u8; TABLE], file: usize, page: usize) -> usize
+    ensures { λ r. ⌜ r ≡ slotFor (now (slots .entry)) file page ⌝ }
+{
+    if file < media::FILES {
+        if page < media::PAGES_PER_FILE {
+            return number::widen(slots[media::PAGES_PER_FILE * file + page]);
+        }
+    }
+    device::SLOTS
 }
 
 // The refusals of the calls on a file, in their order. Where none applies, the table has the slot of each page.

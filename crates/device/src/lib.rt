@@ -1,8 +1,10 @@
-// The device: the media, page frames over it, and the cache state. Here are the types of its code; specs/ has its calls as
-// definitions, and proofs/ what follows from them.
+// The device: the media, page frames over it, and the cache state. Here are the types of its code, and the free slot; specs/ has
+// its calls as definitions, and proofs/ what follows from them.
 //
 // The page frames are borrowed beside the cache state, SLOTS × 256 bytes; slot k has the bytes from 256 × k on.
 use answer::Answer;
+ghost use mathlib.Core.Path.{_≡_};
+ghost use Rattle.device.specs.Device.{freeSlot, noSlots};
 
 // At most this many pages are cached, over all files together.
 pub const SLOTS: usize = 24;
@@ -43,4 +45,21 @@ pub struct Span {
 pub struct Outcome {
     pub answer: Answer,
     pub cache: CacheState,
+}
+
+pub fn free_slot() -> Slot
+    ensures { λ r. ⌜ r ≡ freeSlot ⌝ }
+{
+    Slot {
+        used: false,
+        file: 0,
+        page: 0,
+    }
+}
+
+// All slots, free.
+pub fn no_slots() -> [Slot; SLOTS]
+    ensures { λ r. ⌜ r ≡ noSlots ⌝ }
+{
+    [free_slot(); SLOTS]
 }

@@ -5,7 +5,6 @@ use device::Span;
 use media::PAGE_BYTES;
 use media::PAGES_PER_FILE;
 ghost use mathlib.Core.Path.{_≡_};
-ghost use mathlib.Core.Bool.{true};
 ghost use mathlib.Core.List.{List};
 ghost use Prim.Native.Nat.{_+_, _*_, _≤_, _<_, ℕ, _/_, _%_};
 ghost use lib.ListN.{length, getD};
@@ -18,13 +17,12 @@ ghost use Rattle.media.specs.Write.{Media, mediaOf};
 ghost use Rattle.scan.specs.Scan.{firstIndex};
 ghost use Rattle.device.specs.declared.CacheState.{CacheState};
 ghost use Rattle.device.specs.Device.{deviceOf, slotCount, framesBytes, holds};
-ghost use Rattle.device.specs.Sound.{isSound};
 ghost use Rattle.device.specs.Current.{currentBytes};
 ghost use Rattle.device.specs.Admission.{give, fileTests};
 ghost use Rattle.device.specs.Reading.{read};
 ghost use Rattle.device.specs.Looking.{toPageEnd, lookCount, lookSpan};
 ghost use Rattle.state_bytes.specs.Encoding.{decode};
-ghost use Rattle.cache_state.specs.Tables.{slotTable, tableAfter};
+ghost use Rattle.cache_state.specs.Tables.{slotTable, slotFor, tableAfter};
 
 // The refusals of a call at a position of a file, in their order. Where none applies, the table has the slot of each page.
 fn admit_at(
@@ -78,14 +76,13 @@ fn read_stored(media: &[u8], floor: usize, file: usize, at: usize, buffer: &mut 
 
 // The first page of a file from `page` on, below `last`, that is cached, or `last`.
 fn cached_from(slots: &[u8; cache_state::TABLE], file: usize, page: usize, last: usize) -> usize
-    requires { ⌜ (file < files) × (page ≤ last) × (last ≤ pagesPerFile) × ((i : ℕ) → getD (now slots) i 0 ≤ slotCount) ⌝ }
-    ensures { λ r. ⌜ (page ≤ r) × (r ≤ last) × ((p : ℕ) → page ≤ p → p < r → slotCount ≤ getD (now (slots .entry)) (pagesPerFile * file + p) 0)
-        × (r < last → getD (now (slots .entry)) (pagesPerFile * file + r) 0 < slotCount) ⌝ }
+    requires { ⌜ page ≤ last ⌝ }
+    ensures { λ r. ⌜ (page ≤ r) × (r ≤ last) × ((p : ℕ) → page ≤ p → p < r → slotCount ≤ slotFor (now (slots .entry)) file p)
+        × (r < last → slotFor (now (slots .entry)) file r < slotCount) ⌝ }
 {
     let mut p = page;
     while p < last {
-        let k = slots[PAGES_PER_FILE * file + p] as usize;
-        if k < SLOTS {
+        if cache_state::slot_of(slots, file, p) < SLOTS {
             return p;
         }
         p += 1;
@@ -106,7 +103,7 @@ fn read_pages(
     buffer: &mut [u8],
 )
     requires { ⌜ (length (now media) ≡ mediaBytes pagesPerFile) × (length (now frames) ≡ framesBytes) × (file < files)
-        × (position + count ≤ fileBytes pagesPerFile) × (count ≤ length (now buffer)) × ((i : ℕ) → getD (now slots) i 0 ≤ slotCount) ⌝ }
+        × (position + count ≤ fileBytes pagesPerFile) × (count ≤ length (now buffer)) ⌝ }
     ensures { λ r. ⌜ ((stored : List ℕ) (c : CacheState) → now (slots .entry) ≡ slotTable pagesPerFile (c .slots) → floor ≡ getD (c .floor) file 0
         → now (buffer .exit) ≡ overwrite (now (buffer .entry)) 0 (currentBytes pagesPerFile (deviceOf (mediaOf (now (media .entry)) stored) (now (frames .entry)) c) file position count)) ⌝ }
 {
@@ -114,7 +111,7 @@ fn read_pages(
     let mut i = 0;
     while i < count {
         let at = position + i;
-        let k = slots[PAGES_PER_FILE * file + at / PAGE_BYTES] as usize;
+        let k = cache_state::slot_of(slots, file, at / PAGE_BYTES);
         if k < SLOTS {
             let to = i + number::min(PAGE_BYTES - at % PAGE_BYTES, count - i);
             read_frame(frames, at, k, &mut buffer[i..to]);
@@ -166,18 +163,6 @@ fn to_page_end(position: usize, limit: usize) -> usize
     )
 }
 
-// The slot of a page, by the table of a sound state; SLOTS for a page past the last.
-fn slot_of(slots: &[u8; cache_state::TABLE], file: usize, page: usize) -> usize
-    requires { ⌜ (file < files) × ((i : ℕ) → getD (now slots) i 0 ≤ slotCount) ⌝ }
-    ensures { λ r. ⌜ ((stored : List ℕ) (c : CacheState) → now (slots .entry) ≡ slotTable pagesPerFile (c .slots) → isSound pagesPerFile stored c ≡ true
-        → length (c .slots) ≡ slotCount → r ≡ firstIndex (holds file page) (c .slots)) ⌝ }
-{
-    if page < PAGES_PER_FILE {
-        return slots[PAGES_PER_FILE * file + page] as usize;
-    }
-    SLOTS
-}
-
 // Where a look's part lies: in the page frames, or in the media where the page is not cached. It goes from the position to the end
 // of its page, and no further than the logical size, or than the floor where the page is not cached. It is empty on a refusal, at
 // or past the logical size, and in zeros that no buffer has: `look_count` tells which.
@@ -202,7 +187,7 @@ pub fn look_span(
         Answer::Done(_) => {
             let logical = state_bytes::logical_at(state, file) as usize;
             let floor = state_bytes::floor_at(state, file) as usize;
-            let k = slot_of(&slots, file, position / PAGE_BYTES);
+            let k = cache_state::slot_of(&slots, file, position / PAGE_BYTES);
             if k < SLOTS {
                 return Span {
                     cached: true,

@@ -2,11 +2,11 @@
 use mathlib.Core.Path.{_≡_, refl, sym, ap, _∙_}
 use mathlib.Core.Logic.{_≢_}
 use mathlib.Core.Bool.{true, cond}
-use mathlib.Core.List.{List, [], _∷_, _++_}
+use mathlib.Core.List.{List, [], _∷_, _++_, append-nil, append-assoc}
 use Prim.Native.Nat.{ℕ, zero, suc, _+_, _*_, _≤_, _<_}
-use native.Mathlib.Nat.{not-suc-le-zero, le-of-suc-le-suc, mul-suc, mul-zero, zero-add}
+use native.Mathlib.Nat.{not-suc-le-zero, le-of-suc-le-suc, mul-suc, mul-zero, mul-le-mul-left, zero-add}
 use native.Mathlib.Omega.{arith}
-use lib.ListN.{length, getD, set, replicate, length-set, length-replicate, List·getD-eq-default}
+use lib.ListN.{length, getD, set, replicate, length-append, length-set, length-replicate, List·getD-eq-default}
 use lib.Seq.{set-out}
 use borrow.Author.Tests.{eq-eqb, ne-eqb, lt-ltb, le-ltb}
 use Rattle.memory.specs.Bytes.{zeros, overwrite}
@@ -18,7 +18,7 @@ use Rattle.device.specs.declared.Slot.{Slot}
 use Rattle.device.specs.declared.CacheState.{CacheState}
 use Rattle.device.specs.Device.{slotCount, freeSlot, withSlots, withLogical, withFloor}
 use Rattle.device.specs.Sound.{isSound}
-use Rattle.state_bytes.specs.Encoding.{stateBytes, slotsAt, logicalAt, floorAt, slotBytes, numberBytes, joined, slotIn, numberIn, slotsIn, sizesIn, isState, noState, encode, decode, slotSet, sizeSet}
+use Rattle.state_bytes.specs.Encoding.{stateBytes, slotsAt, logicalAt, floorAt, slotBytes, numberBytes, joined, slotIn, numberIn, slotsIn, sizesIn, isState, noState, encode, decode, elementSet, slotSet, sizeSet}
 use Rattle.state_bytes.specs.InPlace.{IsEncoded}
 use Rattle.state_bytes.specs.Inverse.{Shaped}
 use Rattle.state_bytes.proofs.Encoding.{length-joined, length-each, getD-each}
@@ -101,13 +101,29 @@ overwrite-front (u ∷ us) vs [] e = absurd (omega arith)
 overwrite-front (u ∷ us) vs (w ∷ ws) e = ap (λ (l : List ℕ). w ∷ l) (overwrite-front us vs ws (omega arith))
 
 -- elements of c bytes each: one of them becomes another
-joined-set : {A : Type 0} (c : ℕ) (g : A → List ℕ) (wide : (x : A) → length (g x) ≡ c) (xs : List A) (k : ℕ) (x : A) → k < length xs
-    → overwrite (joined g xs) (c * k) (g x) ≡ joined g (set xs k x)
-joined-set c g wide [] k x h = absurd (not-suc-le-zero h)
-joined-set c g wide (y ∷ ys) zero x h = rw mul-zero (overwrite-front (g y) (joined g ys) (g x) (wide x ∙ sym (wide y)))
-joined-set c g wide (y ∷ ys) (suc k) x h =
-    let e : c * suc k ≡ length (g y) + c * k = rw (mul-suc, wide y) (omega arith) in
-    rw e (overwrite-right (g y) (joined g ys) (c * k) (g x) ∙ ap (λ (l : List ℕ). g y ++ l) (joined-set c g wide ys k x (le-of-suc-le-suc h)))
+module _ {A : Type 0} (c : ℕ) (g : A → List ℕ) (wide : (x : A) → length (g x) ≡ c) where
+  joined-set : (xs : List A) (k : ℕ) (x : A) → k < length xs → overwrite (joined g xs) (c * k) (g x) ≡ joined g (set xs k x)
+  joined-set [] k x h = absurd (not-suc-le-zero h)
+  joined-set (y ∷ ys) zero x h = rw mul-zero (overwrite-front (g y) (joined g ys) (g x) (wide x ∙ sym (wide y)))
+  joined-set (y ∷ ys) (suc k) x h =
+      let e : c * suc k ≡ length (g y) + c * k = rw (mul-suc, wide y) (omega arith) in
+      rw e (overwrite-right (g y) (joined g ys) (c * k) (g x) ∙ ap (λ (l : List ℕ). g y ++ l) (joined-set ys k x (le-of-suc-le-suc h)))
+
+  -- in its place among the bytes of a state, between us and vs
+  element-set : (us vs bytes : List ℕ) (xs : List A) (a n k : ℕ) (x : A) → bytes ≡ us ++ (joined g xs ++ vs) → length us ≡ a → length xs ≡ n
+      → length bytes ≡ stateBytes → elementSet g a c n bytes k x ≡ us ++ (joined g (set xs k x) ++ vs)
+  unfolding elementSet
+  element-set us vs bytes xs a n k x e ea en el =
+      split-lt k n
+      (λ l. rw (eq-eqb (length bytes) stateBytes el, lt-ltb k n l, e, ← ea)
+      (overwrite-right us (joined g xs ++ vs) (c * k) (g x)
+      ∙ ap (λ (r : List ℕ). us ++ r)
+      (overwrite-left (joined g xs) vs (c * k) (g x) (fits l)
+      ∙ ap (λ (r : List ℕ). r ++ vs) (joined-set xs k x (rw en l)))))
+      (λ l. rw (eq-eqb (length bytes) stateBytes el, le-ltb k n l, set-out xs k x (rw en l)) e)
+    where
+      fits : k < n → c * k + length (g x) ≤ length (joined g xs)
+      fits l = rw (length-joined c g wide xs, wide x, en, ← mul-suc) (mul-le-mul-left c l)
 
 module _ (s : CacheState) (h : Shaped s) where
   abbrev slotRun : List ℕ
@@ -125,57 +141,22 @@ module _ (s : CacheState) (h : Shaped s) where
   logical-run : length logicalRun ≡ 32
   logical-run = length-joined 4 numberBytes (λ t. refl) (s .logical) ∙ rw (h .logical)
 
-  slot-here : (k : ℕ) (x : Slot) → k < slotCount → overwrite (encode s) (slotsAt + 3 * k) (slotBytes x) ≡ encode (withSlots s (set (s .slots) k x))
-  unfolding encode
-  slot-here k x l =
-      let e : slotsAt + 3 * k ≡ suc (3 * k) = omega arith in
-      rw e
-      (ap (λ (r : List ℕ). s .mounted ∷ r)
-      (overwrite-left slotRun (logicalRun ++ floorRun) (3 * k) (slotBytes x) (omega (arith, slot-run))
-      ∙ ap (λ (r : List ℕ). r ++ (logicalRun ++ floorRun)) (joined-set 3 slotBytes (λ t. refl) (s .slots) k x (omega (arith, h .slots)))))
-
   pub slot-set : (k : ℕ) (x : Slot) → slotSet (encode s) k x ≡ encode (withSlots s (set (s .slots) k x))
-  unfolding slotSet
-  slot-set k x =
-      split-lt k slotCount
-      (λ l. rw (eq-eqb (length (encode s)) stateBytes (length-encode s h), lt-ltb k slotCount l) (slot-here k x l))
-      (λ l. rw (eq-eqb (length (encode s)) stateBytes (length-encode s h), le-ltb k slotCount l, set-out (s .slots) k x (omega (arith, h .slots))))
-
-  logical-here : (f n : ℕ) → f < files → overwrite (encode s) (logicalAt + 4 * f) (numberBytes n) ≡ encode (withLogical s f n)
   unfolding encode
-  logical-here f n l =
-      let e : logicalAt + 4 * f ≡ suc (length slotRun + 4 * f) = rw slot-run (omega arith) in
-      rw e
-      (ap (λ (r : List ℕ). s .mounted ∷ r)
-      (overwrite-right slotRun (logicalRun ++ floorRun) (4 * f) (numberBytes n)
-      ∙ ap (λ (r : List ℕ). slotRun ++ r)
-      (overwrite-left logicalRun floorRun (4 * f) (numberBytes n) (omega (arith, logical-run))
-      ∙ ap (λ (r : List ℕ). r ++ floorRun) (joined-set 4 numberBytes (λ t. refl) (s .logical) f n (omega (arith, h .logical))))))
+  slot-set k x =
+      element-set 3 slotBytes (λ t. refl) (s .mounted ∷ []) (logicalRun ++ floorRun) (encode s) (s .slots) slotsAt slotCount k x refl refl (h .slots) (length-encode s h)
 
   pub logical-set : (f n : ℕ) → sizeSet logicalAt (encode s) f n ≡ encode (withLogical s f n)
-  unfolding sizeSet
-  logical-set f n =
-      split-lt f files
-      (λ l. rw (eq-eqb (length (encode s)) stateBytes (length-encode s h), lt-ltb f files l) (logical-here f n l))
-      (λ l. rw (eq-eqb (length (encode s)) stateBytes (length-encode s h), le-ltb f files l, set-out (s .logical) f n (omega (arith, h .logical))))
-
-  floor-here : (f n : ℕ) → f < files → overwrite (encode s) (floorAt + 4 * f) (numberBytes n) ≡ encode (withFloor s f n)
   unfolding encode
-  floor-here f n l =
-      let e : floorAt + 4 * f ≡ suc (length slotRun + (length logicalRun + 4 * f)) = rw (slot-run, logical-run) (omega arith) in
-      rw e
-      (ap (λ (r : List ℕ). s .mounted ∷ r)
-      (overwrite-right slotRun (logicalRun ++ floorRun) (length logicalRun + 4 * f) (numberBytes n)
-      ∙ ap (λ (r : List ℕ). slotRun ++ r)
-      (overwrite-right logicalRun floorRun (4 * f) (numberBytes n)
-      ∙ ap (λ (r : List ℕ). logicalRun ++ r) (joined-set 4 numberBytes (λ t. refl) (s .floor) f n (omega (arith, h .floor))))))
+  logical-set f n =
+      element-set 4 numberBytes (λ t. refl) (s .mounted ∷ slotRun) floorRun (encode s) (s .logical) logicalAt files f n refl (ap suc slot-run) (h .logical) (length-encode s h)
 
   pub floor-set : (f n : ℕ) → sizeSet floorAt (encode s) f n ≡ encode (withFloor s f n)
-  unfolding sizeSet
+  unfolding encode
   floor-set f n =
-      split-lt f files
-      (λ l. rw (eq-eqb (length (encode s)) stateBytes (length-encode s h), lt-ltb f files l) (floor-here f n l))
-      (λ l. rw (eq-eqb (length (encode s)) stateBytes (length-encode s h), le-ltb f files l, set-out (s .floor) f n (omega (arith, h .floor))))
+      element-set 4 numberBytes (λ t. refl) (s .mounted ∷ (slotRun ++ logicalRun)) [] (encode s) (s .floor) floorAt files f n
+      (rw (append-assoc slotRun logicalRun, append-nil)) (ap suc (rw (length-append, slot-run, logical-run))) (h .floor) (length-encode s h)
+      ∙ rw (append-assoc slotRun logicalRun, append-nil)
 
 -- ---- sound bytes
 

@@ -96,13 +96,17 @@ encoded s before = cond (eqb (length before) stateBytes) (encode s) before
 
 -- ---- changed in place
 
--- the bytes with another slot k; they stay where there is no such slot, or where they are of another length
-unfoldable pub slotSet : List ℕ → ℕ → Slot → List ℕ
-slotSet bytes k s = cond (eqb (length bytes) stateBytes && ltb k slotCount) (overwrite bytes (slotsAt + 3 * k) (slotBytes s)) bytes
+-- n elements of c bytes each begin at a: the bytes with another element k. They stay where there is no such element, or where they
+-- are of another length
+unfoldable pub elementSet : {A : Type 0} → (A → List ℕ) → ℕ → ℕ → ℕ → List ℕ → ℕ → A → List ℕ
+elementSet g a c n bytes k x = cond (eqb (length bytes) stateBytes && ltb k n) (overwrite bytes (a + c * k) (g x)) bytes
 
--- the bytes with another size of file f among those that begin at a; they stay alike
-unfoldable pub sizeSet : ℕ → List ℕ → ℕ → ℕ → List ℕ
-sizeSet a bytes f n = cond (eqb (length bytes) stateBytes && ltb f files) (overwrite bytes (a + 4 * f) (numberBytes n)) bytes
+abbrev pub slotSet : List ℕ → ℕ → Slot → List ℕ
+slotSet = elementSet slotBytes slotsAt 3 slotCount
+
+-- among the sizes that begin at a
+abbrev pub sizeSet : ℕ → List ℕ → ℕ → ℕ → List ℕ
+sizeSet a = elementSet numberBytes a 4 files
 
 -- ---- free slots
 

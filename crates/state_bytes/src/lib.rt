@@ -10,13 +10,14 @@ ghost use Prim.Native.Nat.{_+_, _*_, _≤_, _<_};
 ghost use lib.ListN.{length, getD};
 ghost use Rattle.memory.specs.Bytes.{overwrite};
 ghost use Rattle.media.specs.Geometry.{files};
-ghost use Rattle.device.specs.Device.{freeSlot, noSlots};
+ghost use Rattle.device.specs.Device.{freeSlot};
 ghost use Rattle.state_bytes.specs.Encoding.{stateBytes, slotsAt, slotBytes, numberBytes, joined, encoded, slotIn, numberIn, slotsIn, sizesIn, isState, noMark, decode, logicalAt, floorAt, slotSet, sizeSet, zerosFrom, eightFree};
 
 // The length of the buffer.
 pub const STATE_BYTES: usize = 137;
 
-const SLOTS_AT: usize = 1;
+// Where the slots begin, three bytes each.
+pub const SLOTS_AT: usize = 1;
 
 const LOGICAL_AT: usize = 73;
 
@@ -101,27 +102,11 @@ fn slot_in(state: &[u8], at: usize) -> Slot
     }
 }
 
-fn free_slot() -> Slot
-    ensures { λ r. ⌜ r ≡ freeSlot ⌝ }
-{
-    Slot {
-        used: false,
-        file: 0,
-        page: 0,
-    }
-}
-
-fn no_slots() -> [Slot; device::SLOTS]
-    ensures { λ r. ⌜ r ≡ noSlots ⌝ }
-{
-    [free_slot(); device::SLOTS]
-}
-
 fn slots_in(state: &[u8]) -> [Slot; device::SLOTS]
     requires { ⌜ length (now state) ≡ stateBytes ⌝ }
     ensures { λ r. ⌜ r ≡ slotsIn (now (state .entry)) ⌝ }
 {
-    let mut slots = no_slots();
+    let mut slots = device::no_slots();
     let mut k = 0;
     while k < device::SLOTS {
         slots[k] = slot_in(state, SLOTS_AT + 3 * k);
@@ -201,7 +186,7 @@ pub fn decode(state: &[u8]) -> CacheState
     }
     CacheState {
         mounted: NO_MARK,
-        slots: no_slots(),
+        slots: device::no_slots(),
         logical: [0; media::FILES],
         floor: [0; media::FILES],
     }
@@ -215,9 +200,9 @@ pub fn slot_at(state: &[u8], k: usize) -> Slot
         if k < device::SLOTS {
             return slot_in(state, SLOTS_AT + 3 * k);
         }
-        return free_slot();
+        return device::free_slot();
     }
-    free_slot()
+    device::free_slot()
 }
 
 // The logical size of a file, or 0 where there is none.
@@ -255,26 +240,30 @@ pub fn set_slot(state: &mut [u8], k: usize, s: Slot)
     }
 }
 
+// A size of a file among those that begin at an index becomes n.
+fn set_size(state: &mut [u8], at: usize, file: usize, n: u32)
+    requires { ⌜ at + 4 * files ≤ stateBytes ⌝ }
+    ensures { λ r. ⌜ now (state .exit) ≡ sizeSet at (now (state .entry)) file n ⌝ }
+{
+    if state.len() == STATE_BYTES {
+        if file < media::FILES {
+            put_number(state, at + 4 * file, n);
+        }
+    }
+}
+
 // The logical size of a file becomes n.
 pub fn set_logical(state: &mut [u8], file: usize, n: u32)
     ensures { λ r. ⌜ now (state .exit) ≡ sizeSet logicalAt (now (state .entry)) file n ⌝ }
 {
-    if state.len() == STATE_BYTES {
-        if file < media::FILES {
-            put_number(state, LOGICAL_AT + 4 * file, n);
-        }
-    }
+    set_size(state, LOGICAL_AT, file, n);
 }
 
 // The floor of a file becomes n.
 pub fn set_floor(state: &mut [u8], file: usize, n: u32)
     ensures { λ r. ⌜ now (state .exit) ≡ sizeSet floorAt (now (state .entry)) file n ⌝ }
 {
-    if state.len() == STATE_BYTES {
-        if file < media::FILES {
-            put_number(state, FLOOR_AT + 4 * file, n);
-        }
-    }
+    set_size(state, FLOOR_AT, file, n);
 }
 
 // Eight bytes as one number, low byte first.

@@ -1,13 +1,11 @@
 -- The media writes of a sync: the loop over the pages, and the three parts of the plan.
-use mathlib.Core.Path.{_≡_, refl}
+use mathlib.Core.Path.{_≡_, refl, _∙_}
 use mathlib.Core.Bool.{Bool, not}
 use mathlib.Core.List.{List, _++_}
 use Prim.Native.Nat.{ℕ, _+_, _*_, _≤_, _<_}
 use native.Mathlib.Omega.{arith}
 use lib.Dec.{eqb, ltb}
 use lib.ListN.{length, getD}
-use mir.Syntax.{w64}
-use mir.Val.{Fits}
 use Rattle.memory.specs.Bytes.{part}
 use Rattle.media.specs.Geometry.{files, pagesPerFile, pageBytes}
 use Rattle.media.specs.Write.{Media, MediaWrite, sizeAt}
@@ -17,12 +15,8 @@ use Rattle.device.specs.Plan.{writeIf, Spent}
 use Rattle.device.specs.Syncing.{trimWrites, pageWrite, pageWrites, sizeWrites, syncPlan}
 use Rattle.device.proofs.Plan.{at-most-one, spent-none, spent-join}
 use Rattle.device.proofs.Syncing.{pages-more}
-use Rattle.cache_state.specs.Tables.{slotTable}
-use Rattle.cache_state.proofs.Pass.{table-slot}
-
--- an entry that a slot can have fits a word
-pub entry-fits : (table : List ℕ) → ((i : ℕ) → getD table i 0 ≤ slotCount) → (i : ℕ) → Fits w64 (getD table i 0)
-entry-fits table h i = omega (arith, h i)
+use Rattle.cache_state.specs.Tables.{slotTable, slotFor}
+use Rattle.cache_state.proofs.Pass.{slot-for}
 
 -- one write at most is one more at most
 pub one-more : {P budget n k : ℕ} {m c : Media} (b : Bool) (w : MediaWrite) → Spent P budget m n k (writeIf b w) c → k ≤ n + 1
@@ -35,16 +29,17 @@ module _ (budget : ℕ) (d : Device) (f : ℕ) (before : ℕ) (m : Media) where
   pages-none = spent-none pagesPerFile budget m before _ refl
 
   -- page p, whose slot the table has
-  pub pages-next : (p i n k : ℕ) (c e : Media) (frames table : List ℕ) → f < files → p < pagesPerFile → i ≡ p + 1 → d .frames ≡ frames → table ≡ slotTable pagesPerFile (d .cache .slots)
+  pub pages-next : (p i n k slot : ℕ) (c e : Media) (frames table : List ℕ) → f < files → p < pagesPerFile → i ≡ p + 1 → d .frames ≡ frames
+      → table ≡ slotTable pagesPerFile (d .cache .slots) → slot ≡ slotFor table f p
       → Spent pagesPerFile budget m before n (pageWrites d f p 0) c
       → Spent pagesPerFile budget c n k
-      (writeIf (ltb (getD table (pagesPerFile * f + p) 0) slotCount) (page f p (part frames (frameStart (getD table (pagesPerFile * f + p) 0)) pageBytes))) e
+      (writeIf (ltb slot slotCount) (page f p (part frames (frameStart slot) pageBytes))) e
       → Spent pagesPerFile budget m before k (pageWrites d f i 0) e
   unfolding pageWrite
-  pages-next p i n k c e frames table hf hp ei ef et x y =
+  pages-next p i n k slot c e frames table hf hp ei ef et es x y =
       let z : 0 + p ≡ p = omega arith in
       let more : pageWrites d f i 0 ≡ pageWrites d f p 0 ++ pageWrite d f p = rw ei (rw z at (pages-more d f p 0)) in
-      rw more (spent-join pagesPerFile budget m before c e n k _ _ x (rw (et, table-slot (d .cache .slots) f p hf hp, ← ef) at y))
+      rw more (spent-join pagesPerFile budget m before c e n k _ _ x (rw (es ∙ slot-for (d .cache .slots) table f p et hf hp, ← ef) at y))
 
 -- the TRIM, the pages and the SIZE, joined
 pub sync-spent : (P budget : ℕ) (d : Device) (f logical floor trims writes n : ℕ) (m c e : Media) → logical ≡ logicalAt d f → floor ≡ floorAt d f

@@ -102,8 +102,7 @@ fn write_pages(
     budget: usize,
     before: usize,
 ) -> usize
-    requires { ⌜ (length (now media) ≡ mediaBytes pagesPerFile) × (length (now frames) ≡ framesBytes) × (file < files) × (before ≤ 1)
-        × ((i : ℕ) → getD (now slots) i 0 ≤ slotCount) ⌝ }
+    requires { ⌜ (length (now media) ≡ mediaBytes pagesPerFile) × (length (now frames) ≡ framesBytes) × (file < files) × (before ≤ 1) ⌝ }
     ensures { λ r. ⌜ (r ≤ before + pagesPerFile)
         × ((stored : List ℕ) (d : Device) → d .frames ≡ now (frames .entry) → now (slots .entry) ≡ slotTable pagesPerFile (d .cache .slots)
         → Spent pagesPerFile budget (mediaOf (now (media .entry)) stored) before r (pageWrites d file pagesPerFile 0) (mediaOf (now (media .exit)) stored)) ⌝ }
@@ -112,7 +111,7 @@ fn write_pages(
     let mut left = media::PAGES_PER_FILE;
     while 0 < left {
         let number = media::PAGES_PER_FILE - left;
-        let k = slots[media::PAGES_PER_FILE * file + number] as usize;
+        let k = cache_state::slot_of(slots, file, number);
         needed = page_if(media, frames, file, number, k, budget, needed);
         left -= 1;
     }

@@ -15,8 +15,8 @@ use Rattle.media.specs.Write.{mediaOf}
 use Rattle.scan.specs.Scan.{firstIndex}
 use Rattle.device.specs.declared.Slot.{Slot}
 use Rattle.device.specs.declared.CacheState.{CacheState}
-use Rattle.cache_state.specs.Tables.{slotTable}
-use Rattle.cache_state.proofs.Pass.{table-slot}
+use Rattle.cache_state.specs.Tables.{slotTable, slotFor}
+use Rattle.cache_state.proofs.Pass.{slot-for}
 use Rattle.scan.proofs.Scan.{first-set}
 use Rattle.device.specs.Device.{Device, deviceOf, slotCount, freeSlot, isFree, holds, slotOf, isCached, firstFree}
 use Rattle.device.specs.Writing.{hasSlot, cachePage, patchPage, putPage, andMore, putPages}
@@ -62,11 +62,11 @@ taken-no b c x y e t = e ∙ rw t
 -- n bytes are left from position i of file f on: the table has the slots of the pages that they go to
 abbrev pub Told : List ℕ → ℕ → ℕ → ℕ → List Slot → Type 0
 Told table f i n slots =
-    0 < n → (p : ℕ) → i / pageBytes ≤ p → p < pagesPerFile → getD table (pagesPerFile * f + p) 0 ≡ firstIndex (holds f p) slots
+    0 < n → (p : ℕ) → i / pageBytes ≤ p → p < pagesPerFile → slotFor table f p ≡ firstIndex (holds f p) slots
 
 module _ (table : List ℕ) (f : ℕ) where
   pub told-all : f < files → (i n : ℕ) (slots : List Slot) → table ≡ slotTable pagesPerFile slots → Told table f i n slots
-  told-all hf i n slots e h p l hp = rw e (table-slot slots f p hf hp)
+  told-all hf i n slots e h p l hp = slot-for slots table f p e hf hp
 
   -- the page at i took its piece of k bytes, as many as there were or to its end
   pub told-next : (i n : ℕ) (d : Device) → Told table f i n (d .cache .slots) → length (d .cache .slots) ≡ slotCount

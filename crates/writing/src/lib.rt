@@ -114,13 +114,6 @@ fn put_page(
     false
 }
 
-// A slot's number from the table.
-fn wide(k: u8) -> usize
-    ensures { λ r. ⌜ r ≡ k ⌝ }
-{
-    k as usize
-}
-
 // The pages of a write, ascending, until one has no slot. Each takes the piece that begins where the page before stopped. The number
 // of bytes put down comes back. The table has the slots at the start: a page that becomes cached takes no other's.
 fn put_pages(
@@ -143,7 +136,7 @@ fn put_pages(
         let page = (position + from) / PAGE_BYTES;
         let offset = (position + from) % PAGE_BYTES;
         let to = from + number::min(PAGE_BYTES - offset, bytes.len() - from);
-        let k = wide(slots[PAGES_PER_FILE * file + page]);
+        let k = cache_state::slot_of(slots, file, page);
         let piece = &bytes[from..to];
         if put_page(
             media,
@@ -180,14 +173,8 @@ fn grow(state: &mut [u8], file: usize, n: usize)
     ensures { λ r. ⌜ (decode (now (state .exit)) ≡ withLogical (decode (now (state .entry))) file (max (getD ((decode (now (state .entry))) .logical) file 0) n))
         × IsEncoded (now (state .exit)) ⌝ }
 {
-    let logical = state_bytes::logical_at(state, file);
-    state_bytes::set_logical(state, file, max(logical, n as u32));
-}
-
-fn max(a: u32, b: u32) -> u32
-    ensures { λ r. ⌜ r ≡ max a b ⌝ }
-{
-    if a <= b { b } else { a }
+    let logical = state_bytes::logical_at(state, file) as usize;
+    state_bytes::set_logical(state, file, number::max(logical, n) as u32);
 }
 
 // Write: puts the bytes down page by page, ascending, until a page has no slot, and answers how many: fewer than asked where all
@@ -268,7 +255,7 @@ fn tail_slot(slots: &[u8; TABLE], file: usize, n: usize) -> usize
     if n % PAGE_BYTES == 0 {
         return SLOTS;
     }
-    wide(slots[PAGES_PER_FILE * file + n / PAGE_BYTES])
+    cache_state::slot_of(slots, file, n / PAGE_BYTES)
 }
 
 // The page that n falls inside, in slot k where it is cached, gets zeros from n on.

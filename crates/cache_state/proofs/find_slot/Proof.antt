@@ -5,7 +5,7 @@ use Prim.Native.Nat.{_+_, _*_, _<_}
 use native.Mathlib.Omega.{arith}
 use lib.ListN.{getD}
 use Rattle.cache_state.specs.Tables.{Passed}
-use Rattle.cache_state.proofs.Pass.{entry-fits, find-used, find-twice, find-page, find-file, find-free, find-carried, find-carried-page, find-flag}
+use Rattle.cache_state.proofs.Pass.{find-used, find-twice, find-page, find-file, find-free, find-carried, find-carried-page, find-flag}
 use borrow.Author.Needs.{needs}
 use Rattle.cache_state.proofs.find_slot.Statement.{statement}
 use Rattle.cache_state.proofs.find_slot.Tie as tie
@@ -30,7 +30,7 @@ shared-slice-read-file : tie.Need-shared-slice-read-file
 shared-slice-read-file c = search needs
 
 cast-file : tie.Need-cast-file
-cast-file c = omega (arith, c .shared-slice-known2 .given (1 + 3 * c .before .before .args .k + 1))
+cast-file c = omega (arith, c .shared-slice-known3 .given (1 + 3 * c .before .before .before .args .k + 1))
 
 add-page : tie.Need-add-page
 add-page c = search needs
@@ -39,7 +39,7 @@ shared-slice-read-page : tie.Need-shared-slice-read-page
 shared-slice-read-page c = search needs
 
 cast-page : tie.Need-cast-page
-cast-page c = omega (arith, c .shared-slice-known3 .given (1 + 3 * c .before .before .before .args .k + 2))
+cast-page c = omega (arith, c .shared-slice-known4 .given (1 + 3 * c .before .before .before .before .args .k + 2))
 
 mul-place : tie.Need-mul-place
 mul-place c = search needs
@@ -47,11 +47,11 @@ mul-place c = search needs
 add-place : tie.Need-add-place
 add-place c = search needs
 
-element-copy-out-seen : tie.Need-element-copy-out-seen
-element-copy-out-seen c = search needs
+element-copy-out-widen : tie.Need-element-copy-out-widen
+element-copy-out-widen c = search needs
 
-cast-seen : tie.Need-cast-seen
-cast-seen c = let a = c .before .before .before .before .before .before .before .args in omega (arith, entry-fits (a .state .now) (a .slots .now) (a .k) (passed (c .before .before .before .before .before .before .before)) (omega arith) (getD (a .state .now) (1 + 3 * a .k + 1) 0) (getD (a .state .now) (1 + 3 * a .k + 2) 0) (omega arith) (omega arith))
+widen-requires : tie.Need-widen-requires
+widen-requires c κs = search needs
 
 cast-slots : tie.Need-cast-slots
 cast-slots c = search needs
@@ -61,49 +61,49 @@ element-write-slots c = search needs
 
 returns : tie.Need-returns
 returns c =
-    let s = c .before .before .before .before .before .before .before .before in
+    let s = c .before .before .before .before .before .before .before .before .before .before in
     let a = s .args in
-    (λ q. find-used (a .state .now) (a .slots .now) (a .k) (passed s) (omega arith) (omega arith) (omega arith) (omega arith) (c .if4 .taken), λ q. absurd (false≢true (sym q)))
+    (λ q. find-used (a .state .now) (a .slots .now) (a .k) (passed s) (omega arith) (omega arith) (omega arith) (omega arith) (sym (c .before .widen .ensures) ∙ c .if4 .taken), λ q. absurd (false≢true (sym q)))
 
 returns-2 : tie.Need-returns-2
 returns-2 c =
-    let s = c .before .before .before .before .before .before .before .before in
+    let s = c .before .before .before .before .before .before .before .before .before .before in
     let a = s .args in
-    (λ q. absurd (false≢true q), λ q. find-twice (a .state .now) (a .slots .now) (a .k) (passed s) (omega arith) (omega arith) (omega arith) (omega arith) (c .if4 .left))
+    (λ q. absurd (false≢true q), λ q. find-twice (a .state .now) (a .slots .now) (a .k) (passed s) (omega arith) (omega arith) (omega arith) (omega arith) (λ q. c .if4 .left (c .before .widen .ensures ∙ q)))
 
 returns-3 : tie.Need-returns-3
 returns-3 c =
-    let s = c .before .before .before .before .before .before in
+    let s = c .before .before .before .before .before .before .before in
     let a = s .args in
     (λ q. absurd (false≢true q), λ q. find-page (a .state .now) (a .slots .now) (a .k) (passed s) (omega arith) (omega arith) (omega arith) (omega arith))
 
 returns-4 : tie.Need-returns-4
 returns-4 c =
-    let s = c .before .before .before .before .before in
+    let s = c .before .before .before .before .before .before in
     let a = s .args in
     (λ q. absurd (false≢true q), λ q. find-file (a .state .now) (a .slots .now) (a .k) (passed s) (omega arith) (omega arith) (omega arith))
 
 returns-5 : tie.Need-returns-5
 returns-5 c =
-    let s = c .before .before .before .before .before .before .before in
+    let s = c .before .before .before .before .before .before .before .before in
     let a = s .args in
     (λ q. find-free (a .state .now) (a .slots .now) (a .k) (passed s) (omega arith) (omega arith) (omega arith) (omega arith), λ q. absurd (false≢true (sym q)))
 
 returns-6 : tie.Need-returns-6
 returns-6 c =
-    let s = c .before .before .before .before .before .before .before in
+    let s = c .before .before .before .before .before .before .before .before in
     let a = s .args in
     (λ q. absurd (false≢true q), λ q. find-carried-page (a .state .now) (a .slots .now) (a .k) (passed s) (omega arith) (omega arith) (omega arith) (c .if7 .left))
 
 returns-7 : tie.Need-returns-7
 returns-7 c =
-    let s = c .before .before .before .before .before .before in
+    let s = c .before .before .before .before .before .before .before in
     let a = s .args in
     (λ q. absurd (false≢true q), λ q. find-carried (a .state .now) (a .slots .now) (a .k) (passed s) (omega arith) (omega arith) (c .if6 .left))
 
 returns-8 : tie.Need-returns-8
 returns-8 c =
-    let s = c .before .before .before .before .before in
+    let s = c .before .before .before .before .before .before in
     let a = s .args in
     (λ q. absurd (false≢true q), λ q. find-flag (a .state .now) (a .slots .now) (a .k) (passed s) (omega arith) (c .before .if1 .left) (c .if5 .left))
 
@@ -122,8 +122,8 @@ find-slot-spec =
     cast-page
     mul-place
     add-place
-    element-copy-out-seen
-    cast-seen
+    element-copy-out-widen
+    widen-requires
     cast-slots
     element-write-slots
     returns

@@ -1,17 +1,16 @@
 -- `reading::cached_from` meets its contract: none of the pages before p is cached.
 use mathlib.Core.Path.{_≡_}
-use Prim.Native.Nat.{ℕ, _+_, _*_, _-_, _<_, _≤_}
+use Prim.Native.Nat.{ℕ, _-_, _<_, _≤_}
 use native.Mathlib.Omega.{arith}
-use lib.ListN.{getD}
 use borrow.Author.Needs.{needs}
 use Rattle.memory.proofs.Cases.{split-lt}
-use Rattle.media.specs.Geometry.{pagesPerFile}
 use Rattle.device.specs.Device.{slotCount}
+use Rattle.cache_state.specs.Tables.{slotFor}
 use Rattle.reading.proofs.cached_from.Statement.{statement}
 use Rattle.reading.proofs.cached_from.Tie as tie
 
 abbrev Inv-loop : tie.InvT-loop
-Inv-loop slots file page last p₀ p = (page ≤ p) × (p ≤ last) × ((q : ℕ) → page ≤ q → q < p → slotCount ≤ getD slots (pagesPerFile * file + q) 0)
+Inv-loop slots file page last p₀ p = (page ≤ p) × (p ≤ last) × ((q : ℕ) → page ≤ q → q < p → slotCount ≤ slotFor slots file q)
 
 abbrev μ-loop : tie.MeasureT-loop
 μ-loop slots file page last p₀ p = last - p
@@ -19,25 +18,13 @@ abbrev μ-loop : tie.MeasureT-loop
 loop-holds : tie.Need-loop-holds Inv-loop μ-loop
 loop-holds c = (search needs, search needs, λ q h k. omega arith)
 
-mul-k : tie.Need-mul-k Inv-loop μ-loop
-mul-k c = search needs
-
-add-k : tie.Need-add-k Inv-loop μ-loop
-add-k c = search needs
-
-element-copy-out-k : tie.Need-element-copy-out-k Inv-loop μ-loop
-element-copy-out-k c = search needs
-
-cast-k : tie.Need-cast-k Inv-loop μ-loop
-cast-k c =
-    let l = c .before .before in
-    let s = l .before in
-    omega (arith, s .pre .3 (pagesPerFile * s .args .file + l .loop .p))
+slot-of-requires : tie.Need-slot-of-requires Inv-loop μ-loop
+slot-of-requires c κs = search needs
 
 returns : tie.Need-returns Inv-loop μ-loop
 returns c =
     let v = c .before .before .before .loop .inv in
-    (v .0, v .1, v .2, λ h. omega arith)
+    (v .0, v .1, v .2, λ h. omega (arith, c .before .slot-of .ensures))
 
 add-p : tie.Need-add-p Inv-loop μ-loop
 add-p c = search needs
@@ -48,7 +35,7 @@ loop-less c = search needs
 loop-again : tie.Need-loop-again Inv-loop μ-loop
 loop-again c =
     let l = c .before .before .before in
-    (omega arith, omega arith, λ q h k. split-lt q (l .loop .p) (λ lo. l .loop .inv .2 q h lo) (λ hi. let e : q ≡ l .loop .p = omega arith in rw e (omega arith)))
+    (omega arith, omega arith, λ q h k. split-lt q (l .loop .p) (λ lo. l .loop .inv .2 q h lo) (λ hi. let e : q ≡ l .loop .p = omega arith in rw e (omega (arith, c .before .slot-of .ensures))))
 
 returns-2 : tie.Need-returns-2 Inv-loop μ-loop
 returns-2 c =
@@ -62,10 +49,7 @@ cached-from-spec =
     Inv-loop
     μ-loop
     loop-holds
-    mul-k
-    add-k
-    element-copy-out-k
-    cast-k
+    slot-of-requires
     returns
     add-p
     loop-less

@@ -1,20 +1,23 @@
 -- `reading::look_span` meets its contract: nothing where `admit_at` refuses, or a part of the frames or of the media.
 use mathlib.Core.Path.{_≡_, _∙_, ap}
+use mathlib.Core.Bool.{true}
 use Prim.Native.Nat.{ℕ, _/_, _≤_}
 use native.Mathlib.Omega.{arith}
 use lib.Dec.{leb}
 use borrow.Author.Tests.{leb-true}
 use borrow.Author.Needs.{needs}
+use Rattle.answer.proofs.Admission.{passed}
 use Rattle.media.specs.Geometry.{pageBytes, pagesPerFile, fileBytes, fileStart}
 use Rattle.media.specs.Write.{mediaOf}
 use Rattle.device.specs.Device.{Device, deviceOf, slotOf}
+use Rattle.device.specs.Admission.{fileTests}
 use Rattle.device.specs.Looking.{toPageEnd}
 use Rattle.device.proofs.Admission.{Admitted, file-passed, file-refused, file-ready}
 use Rattle.device.proofs.Looking.{span-refused, span-cached, span-media}
 use Rattle.state_bytes.specs.Encoding.{decode}
 use Rattle.state_bytes.proofs.InPlace.{shaped}
 use Rattle.cache_state.proofs.Soundness.{table-is}
-use Rattle.cache_state.proofs.Pass.{table-most}
+use Rattle.reading.proofs.Slots.{slot-sound}
 use Rattle.reading.proofs.look_span.Statement.{statement}
 use Rattle.reading.proofs.look_span.Tie as tie
 
@@ -28,6 +31,9 @@ start c = c .before .before .before .before .before .before .before .before
 ready : (c : tie.After-enum-told2) → Admitted pagesPerFile (device (start c)) (start c .args .file) (leb (start c .args .position) (fileBytes pagesPerFile))
 ready c = file-ready pagesPerFile (device (start c)) _ _ (c .before .before .admit-at .result) (c .before .before .admit-at .ensures .0) _ (c .enum-told2 .given .1)
 
+admitted : (c : tie.After-enum-told2) → passed (fileTests pagesPerFile (device (start c)) (start c .args .file) (leb (start c .args .position) (fileBytes pagesPerFile))) ≡ true
+admitted c = file-passed pagesPerFile (device (start c)) _ _ (c .before .before .admit-at .result) (c .before .before .admit-at .ensures .0) _ (c .enum-told2 .given .1)
+
 in-limits : (c : tie.After-enum-told2) → start c .args .position ≤ fileBytes pagesPerFile
 in-limits c = leb-true _ _ (ready c .in-range)
 
@@ -39,7 +45,8 @@ slot-is : (c : tie.After-slot-of) → c .slot-of .result ≡ slotOf (device (sta
 slot-is c =
     let t = told c in
     let bytes = start t .args .state .now in
-    c .slot-of .ensures (start t .args .sizes .now) (decode bytes) (table-is (t .before .before .admit-at .result) _ (decode bytes .slots) _ (t .enum-told2 .given .1) (t .before .before .admit-at .ensures .1)) (ready t .sound) (shaped bytes .slots)
+    let table = table-is (t .before .before .admit-at .result) _ (decode bytes .slots) _ (t .enum-told2 .given .1) (t .before .before .admit-at .ensures .1) in
+    c .slot-of .ensures ∙ slot-sound (start t .args .sizes .now) _ (decode bytes) _ _ table (ready t .sound) (shaped bytes .slots) (ready t .file)
 
 admit-at-requires : tie.Need-admit-at-requires
 admit-at-requires c κs = search needs
@@ -63,10 +70,7 @@ cast-floor : tie.Need-cast-floor
 cast-floor c = search needs
 
 slot-of-requires : tie.Need-slot-of-requires
-slot-of-requires c κs =
-    let t = c .before .before .before in
-    let slots = decode (start t .args .state .now) .slots in
-    (ready t .file, table-most slots _ (shaped (start t .args .state .now) .slots) (table-is (t .before .before .admit-at .result) _ slots _ (t .enum-told2 .given .1) (t .before .before .admit-at .ensures .1)))
+slot-of-requires c κs = search needs
 
 mul-t18 : tie.Need-mul-t18
 mul-t18 c = search needs
@@ -81,10 +85,8 @@ returns : tie.Need-returns
 returns c =
     let m = c .before .before in
     let l = m .before .before .before in
-    let t = told m in
-    let s = start t in
-    let h = file-passed pagesPerFile (device s) _ _ (t .before .before .admit-at .result) (t .before .before .admit-at .ensures .0) _ (t .enum-told2 .given .1) in
-    span-cached pagesPerFile (s .args .file) (s .args .position) (device s) h _ (slot-is m) _ (omega arith)
+    let s = start (told m) in
+    span-cached pagesPerFile (s .args .file) (s .args .position) (device s) (admitted (told m)) _ (slot-is m) _ (omega arith)
     (c .to-page-end .ensures ∙ ap (λ (n : ℕ). toPageEnd (s .args .position) n) (l .logical-at .ensures))
 
 mul-t16 : tie.Need-mul-t16
@@ -112,10 +114,8 @@ unfolding fileStart
 returns-3 c =
     let m = c .before .before in
     let l = m .before .before in
-    let t = told m in
-    let s = start t in
-    let h = file-passed pagesPerFile (device s) _ _ (t .before .before .admit-at .result) (t .before .before .admit-at .ensures .0) _ (t .enum-told2 .given .1) in
-    span-media pagesPerFile (s .args .file) (s .args .position) (device s) h _ (slot-is m) _ (omega arith)
+    let s = start (told m) in
+    span-media pagesPerFile (s .args .file) (s .args .position) (device s) (admitted (told m)) _ (slot-is m) _ (omega arith)
     (c .to-page-end2 .ensures ∙ ap (λ (n : ℕ). toPageEnd (s .args .position) n) (l .floor-at .ensures))
 
 pub look-span-spec : {M : Type 1} → statement M

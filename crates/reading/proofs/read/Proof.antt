@@ -12,10 +12,8 @@ use Rattle.device.proofs.Admission.{Admitted, file-passed, file-refused, file-r
 use Rattle.device.proofs.Sound.{sound-sizes}
 use Rattle.device.proofs.Reading.{read-refused, read-done}
 use Rattle.state_bytes.specs.Encoding.{decode}
-use Rattle.state_bytes.proofs.InPlace.{shaped}
 use Rattle.cache_state.specs.Tables.{slotTable}
 use Rattle.cache_state.proofs.Soundness.{table-is}
-use Rattle.cache_state.proofs.Pass.{table-most}
 use Rattle.reading.proofs.read.Statement.{statement}
 use Rattle.reading.proofs.read.Tie as tie
 
@@ -66,11 +64,10 @@ read-pages-requires : tie.Need-read-pages-requires
 unfolding device
 read-pages-requires c κs =
     let t = c .before .before .before .before .before .before in
-    let bytes = start t .args .state .now in
     let ok = ready t in
     let s = sound-sizes pagesPerFile _ _ _ (ok .sound) (ok .file) in
     let r : start t .args .position ≤ fileBytes pagesPerFile = leb-true _ _ (ok .in-range) in
-    (ok .bytes, ok .frames, ok .file, omega arith, omega arith, table-most (decode bytes .slots) _ (shaped bytes .slots) (table t))
+    (ok .bytes, ok .frames, ok .file, omega arith, omega arith)
 
 returns : tie.Need-returns
 unfolding device

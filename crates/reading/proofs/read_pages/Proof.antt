@@ -15,8 +15,8 @@ use Rattle.device.specs.declared.CacheState.{CacheState}
 use Rattle.device.specs.Device.{deviceOf, slotCount, holds}
 use Rattle.device.specs.Current.{currentBytes}
 use Rattle.device.proofs.Reading.{read-step}
-use Rattle.cache_state.specs.Tables.{slotTable}
-use Rattle.cache_state.proofs.Pass.{table-slot}
+use Rattle.cache_state.specs.Tables.{slotTable, slotFor}
+use Rattle.cache_state.proofs.Pass.{slot-for}
 use Rattle.reading.proofs.Stored.{read-to}
 use Rattle.reading.proofs.read_pages.Statement.{statement}
 use Rattle.reading.proofs.read_pages.Tie as tie
@@ -43,20 +43,8 @@ loop-holds c = (λ stored d e-slots e-floor. sym (overwrite-none _ 0), search ne
 add-at : tie.Need-add-at Inv-loop μ-loop
 add-at c = search needs
 
-mul-k : tie.Need-mul-k Inv-loop μ-loop
-mul-k c = search needs
-
-add-k : tie.Need-add-k Inv-loop μ-loop
-add-k c = search needs
-
-element-copy-out-k : tie.Need-element-copy-out-k Inv-loop μ-loop
-element-copy-out-k c = search needs
-
-cast-k : tie.Need-cast-k Inv-loop μ-loop
-cast-k c =
-    let l = c .before .before in
-    let s = l .before .before .before .before in
-    omega (arith, s .pre .5 (pagesPerFile * s .args .file + (s .args .position + l .loop .i) / pageBytes))
+slot-of-requires : tie.Need-slot-of-requires Inv-loop μ-loop
+slot-of-requires c κs = search needs
 
 sub-min : tie.Need-sub-min Inv-loop μ-loop
 sub-min c = search needs
@@ -89,14 +77,15 @@ loop-again : tie.Need-loop-again Inv-loop μ-loop
 loop-again c =
     let p = c .before .before in
     let n = p .before .before in
-    let l = n .before .before .before .before in
+    let k = n .before .before in
+    let l = k .before .before in
     let a = l .before .before .before .before .args in
     let i = l .loop .i in
     let page = (a .position + i) / pageBytes in
     let left = p .read-frame .last .1 .1 .1 .0 in
     let fits : i + n .min .result ≤ length (l .loop .buffer) = omega arith in (
       λ stored d e-slots e-floor.
-          let e-k = ap (λ (t : List ℕ). getD t (pagesPerFile * a .file + page) 0) e-slots ∙ table-slot (d .slots) (a .file) page (omega arith) (omega arith) in
+          let e-k = k .slot-of .ensures ∙ slot-for (d .slots) _ (a .file) page e-slots (omega arith) (omega arith) in
           read-step pagesPerFile (deviceOf (mediaOf (a .media .now) stored) (a .frames .now) d) (a .file) (a .buffer .now) (l .loop .buffer) left (a .position) i (n .min .result) (l .loop .inv .0 stored d e-slots e-floor) (p .read-frame .ensures (mediaOf (a .media .now) stored) d (a .file) e-k) fits,
       omega arith,
       length-put i (i + n .min .result) (l .loop .buffer) left (omega (arith, p .read-frame .kept)) (omega arith) fits ∙ l .loop .inv .2,
@@ -106,9 +95,7 @@ add-cached-from : tie.Need-add-cached-from Inv-loop μ-loop
 add-cached-from c = search needs
 
 cached-from-requires : tie.Need-cached-from-requires Inv-loop μ-loop
-cached-from-requires c κs =
-    let s = c .before .before .before .before .before .before .before in
-    (search needs, omega arith, omega arith, s .pre .5)
+cached-from-requires c κs = omega arith
 
 mul-min : tie.Need-mul-min Inv-loop μ-loop
 mul-min c = search needs
@@ -139,7 +126,8 @@ loop-again-2 c =
     let p = c .before .before in
     let n = p .before .before in
     let f = n .before in
-    let l = f .before .before .before .before in
+    let k = f .before .before in
+    let l = k .before .before in
     let a = l .before .before .before .before .args in
     let i = l .loop .i in
     let at : ℕ = a .position + i in
@@ -152,11 +140,10 @@ loop-again-2 c =
           let none : (q : ℕ) → at / pageBytes ≤ q → pageBytes * q < at + length (part (l .loop .buffer) i (to - i)) → slotCount ≤ firstIndex (holds (a .file) q) (d .slots) =
           λ q lo hi.
           let below : q < f .cached-from .result = omega arith in
-          let e-q : getD (a .slots .now) (pagesPerFile * a .file + q) 0 ≡ firstIndex (holds (a .file) q) (d .slots) =
-          ap (λ (t : List ℕ). getD t (pagesPerFile * a .file + q) 0) e-slots ∙ table-slot (d .slots) (a .file) q (omega arith) (omega (arith, f .cached-from .ensures .1)) in
+          let e-q = slot-for (d .slots) _ (a .file) q e-slots (omega arith) (omega (arith, f .cached-from .ensures .1)) in
           split-lt (at / pageBytes) q
           (λ h. omega (arith, e-q, f .cached-from .ensures .2 q (omega arith) below))
-          (λ h. let e : at / pageBytes ≡ q = omega arith in let z : slotCount ≤ getD (a .slots .now) (pagesPerFile * a .file + at / pageBytes) 0 = omega arith in omega (arith, e-q, rw e at z)) in
+          (λ h. let e : at / pageBytes ≡ q = omega arith in let z : slotCount ≤ slotFor (a .slots .now) (a .file) (at / pageBytes) = omega (arith, k .slot-of .ensures) in omega (arith, e-q, rw e at z)) in
           read-to pagesPerFile (deviceOf (mediaOf (a .media .now) stored) (a .frames .now) d) (a .file) (a .buffer .now) (l .loop .buffer) left (a .position) i to (omega arith) (l .loop .inv .0 stored d e-slots e-floor) (p .read-stored .ensures stored (a .frames .now) d none e-floor) fits,
       omega arith,
       length-put i to (l .loop .buffer) left (omega (arith, p .read-stored .kept)) (omega arith) fits ∙ l .loop .inv .2,
@@ -183,10 +170,7 @@ read-pages-spec =
     sub-pages
     loop-holds
     add-at
-    mul-k
-    add-k
-    element-copy-out-k
-    cast-k
+    slot-of-requires
     sub-min
     sub-min-2
     min-requires

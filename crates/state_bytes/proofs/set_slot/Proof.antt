@@ -4,7 +4,7 @@ use native.Mathlib.Omega.{arith}
 use lib.ListN.{length}
 use borrow.Author.Tests.{eq-eqb, ne-eqb, lt-ltb, le-ltb}
 use Rattle.device.specs.Device.{slotCount}
-use Rattle.state_bytes.specs.Encoding.{stateBytes, slotSet}
+use Rattle.state_bytes.specs.Encoding.{stateBytes, elementSet}
 use Rattle.state_bytes.proofs.set_slot.Statement.{statement}
 use Rattle.state_bytes.proofs.set_slot.Tie as tie
 
@@ -21,15 +21,15 @@ same-length : tie.Need-same-length
 same-length c = search needs
 
 returns : tie.Need-returns
-unfolding slotSet
+unfolding elementSet
 returns c = let a = c .before .before .before .before .before .before .before .args in rw (eq-eqb (length (a .state .now)) stateBytes (omega arith), lt-ltb (a .k) slotCount (omega arith)) (c .before .before .put-slot .ensures)
 
 returns-2 : tie.Need-returns-2
-unfolding slotSet
+unfolding elementSet
 returns-2 c = let a = c .before .before .before .args in rw (eq-eqb (length (a .state .now)) stateBytes (omega arith), le-ltb (a .k) slotCount (omega arith))
 
 returns-3 : tie.Need-returns-3
-unfolding slotSet
+unfolding elementSet
 returns-3 c = let a = c .before .before .args in rw (ne-eqb (length (a .state .now)) stateBytes (λ e. omega arith))
 
 pub set-slot-spec : {M : Type 1} → statement M

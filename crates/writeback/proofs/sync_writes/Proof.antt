@@ -6,8 +6,6 @@ use Rattle.media.specs.Geometry.{pagesPerFile}
 use Rattle.media.specs.Write.{mediaOf}
 use Rattle.device.specs.Device.{Device, deviceOf}
 use Rattle.state_bytes.specs.Encoding.{decode}
-use Rattle.state_bytes.proofs.InPlace.{shaped}
-use Rattle.cache_state.proofs.Pass.{table-most}
 use Rattle.writeback.proofs.Pages.{one-more, sync-spent}
 use Rattle.writeback.proofs.sync_writes.Statement.{statement}
 use Rattle.writeback.proofs.sync_writes.Tie as tie
@@ -48,7 +46,6 @@ write-pages-requires c κs =
       omega arith,
       omega arith,
       omega (arith, one-more _ _ (t .trim-if .ensures)),
-      table-most (decode (a .state .now) .slots) _ (shaped (a .state .now) .slots) (s .pre .7),
     )
 
 size-if-requires : tie.Need-size-if-requires

@@ -11,7 +11,7 @@ use Rattle.device.specs.Device.{Device}
 use Rattle.device.specs.Plan.{Spent}
 use Rattle.device.specs.Syncing.{pageWrites}
 use Rattle.cache_state.specs.Tables.{slotTable}
-use Rattle.writeback.proofs.Pages.{entry-fits, one-more, pages-none, pages-next}
+use Rattle.writeback.proofs.Pages.{one-more, pages-none, pages-next}
 use Rattle.writeback.proofs.write_pages.Statement.{statement}
 use Rattle.writeback.proofs.write_pages.Tie as tie
 
@@ -32,17 +32,8 @@ loop-holds c =
 sub-number : tie.Need-sub-number Inv-loop μ-loop
 sub-number c = search needs
 
-mul-k : tie.Need-mul-k Inv-loop μ-loop
-mul-k c = search needs
-
-add-k : tie.Need-add-k Inv-loop μ-loop
-add-k c = search needs
-
-element-copy-out-k : tie.Need-element-copy-out-k Inv-loop μ-loop
-element-copy-out-k c = search needs
-
-cast-k : tie.Need-cast-k Inv-loop μ-loop
-cast-k c = let s = c .before .before .before .before .before in entry-fits (s .args .slots .now) (s .pre .4) _
+slot-of-requires : tie.Need-slot-of-requires Inv-loop μ-loop
+slot-of-requires c κs = search needs
 
 page-if-requires : tie.Need-page-if-requires Inv-loop μ-loop
 page-if-requires c κs = search needs
@@ -62,7 +53,7 @@ loop-again c =
       omega (arith, l .loop .inv .1, one-more _ _ (p .page-if .ensures [])),
       omega (arith, p .page-if .kept .0, l .loop .inv .2),
       λ stored d ef et.
-          pages-next (a .budget) d (a .file) (a .before) (mediaOf (a .media .now) stored) (pagesPerFile - l .loop .left) (pagesPerFile - (l .loop .left - 1)) (l .loop .needed) (p .page-if .result) _ _ (a .frames .now) (a .slots .now) (omega arith) (omega arith) (omega arith) ef et
+          pages-next (a .budget) d (a .file) (a .before) (mediaOf (a .media .now) stored) (pagesPerFile - l .loop .left) (pagesPerFile - (l .loop .left - 1)) (l .loop .needed) (p .page-if .result) (p .before .before .slot-of .result) _ _ (a .frames .now) (a .slots .now) (omega arith) (omega arith) (omega arith) ef et (p .before .before .slot-of .ensures)
           (l .loop .inv .3 stored d ef et) (p .page-if .ensures stored),
     )
 
@@ -83,10 +74,7 @@ write-pages-spec =
     μ-loop
     loop-holds
     sub-number
-    mul-k
-    add-k
-    element-copy-out-k
-    cast-k
+    slot-of-requires
     page-if-requires
     sub-left
     loop-less

@@ -1,5 +1,6 @@
 -- `writing::grow` meets its contract: the larger of the two sizes.
 use mathlib.Core.Path.{_≡_, _∙_}
+use native.Mathlib.Omega.{arith}
 use Rattle.state_bytes.proofs.InPlace.{logical-changed}
 use borrow.Author.Needs.{needs}
 use Rattle.writing.proofs.grow.Statement.{statement}
@@ -8,11 +9,14 @@ use Rattle.writing.proofs.grow.Tie as tie
 logical-at-requires : tie.Need-logical-at-requires
 logical-at-requires c κs = search needs
 
-cast-max : tie.Need-cast-max
-cast-max c = search needs
+cast-logical : tie.Need-cast-logical
+cast-logical c = search needs
 
 max-requires : tie.Need-max-requires
 max-requires c κs = search needs
+
+cast-set-logical : tie.Need-cast-set-logical
+cast-set-logical c = omega (arith, c .max .ensures)
 
 set-logical-requires : tie.Need-set-logical-requires
 set-logical-requires c κs = search needs
@@ -30,4 +34,4 @@ returns c =
 pub grow-spec : {M : Type 1} → statement M
 grow-spec =
     tie.close
-    (tie.spec logical-at-requires cast-max max-requires set-logical-requires same-length returns)
+    (tie.spec logical-at-requires cast-logical max-requires cast-set-logical set-logical-requires same-length returns)

@@ -47,17 +47,8 @@ min-requires c κs = search needs
 add-to : tie.Need-add-to Inv-loop μ-loop
 add-to c = search needs
 
-mul-wide : tie.Need-mul-wide Inv-loop μ-loop
-mul-wide c = search needs
-
-add-wide : tie.Need-add-wide Inv-loop μ-loop
-add-wide c = search needs
-
-element-copy-out-wide : tie.Need-element-copy-out-wide Inv-loop μ-loop
-element-copy-out-wide c = search needs
-
-wide-requires : tie.Need-wide-requires Inv-loop μ-loop
-wide-requires c κs = search needs
+slot-of-requires : tie.Need-slot-of-requires Inv-loop μ-loop
+slot-of-requires c κs = search needs
 
 sub-piece : tie.Need-sub-piece Inv-loop μ-loop
 sub-piece c = search needs
@@ -70,9 +61,8 @@ part-piece-end c = search needs
 
 put-page-requires : tie.Need-put-page-requires Inv-loop μ-loop
 put-page-requires c κs =
-    let l = c .before .before .before .before .before .before .before in
-    let s = c .before .before .before .before .before .before .before .before .before .before .before .before in
-    (search needs, search needs, omega (arith, l .loop .inv .2), search needs, omega arith, omega arith, c .before .before .before .wide .ensures ∙ l .loop .inv .4 (omega arith) _ (omega arith) (omega arith), l .loop .inv .3)
+    let l = c .before .before .before .before .before .before in
+    (search needs, search needs, omega (arith, l .loop .inv .2), search needs, omega arith, omega arith, c .before .before .before .slot-of .ensures ∙ l .loop .inv .4 (omega arith) _ (omega arith) (omega arith), l .loop .inv .3)
 
 loop-less : tie.Need-loop-less Inv-loop μ-loop
 loop-less c = omega arith
@@ -80,10 +70,9 @@ loop-less c = omega arith
 loop-again : tie.Need-loop-again Inv-loop μ-loop
 loop-again c =
     let p = c .before .before .before .before .before in
-    let n = c .before .before .before .before .before .before .before .before .before .before .before in
-    let l = c .before .before .before .before .before .before .before .before .before .before .before .before .before in
-    let s = c .before .before .before .before .before .before .before .before .before .before .before .before .before .before .before .before .before .before in
-    let a = s .args in
+    let n = c .before .before .before .before .before .before .before .before .before .before in
+    let l = c .before .before .before .before .before .before .before .before .before .before .before .before in
+    let a = c .before .before .before .before .before .before .before .before .before .before .before .before .before .before .before .before .before .args in
     let has = sym (p .put-page .ensures .0) ∙ c .if1 .taken in (
       λ stored. rest-next (l .loop .inv .0 stored) (n .min .result) _ (omega arith) (omega arith) has (omega arith) (taken-yes _ _ _ _ (p .put-page .ensures .1 stored) (c .if1 .taken)),
       omega arith,
@@ -98,12 +87,12 @@ same-length : tie.Need-same-length Inv-loop μ-loop
 same-length c = search needs
 
 same-length-2 : tie.Need-same-length-2 Inv-loop μ-loop
-same-length-2 c = omega (arith, c .before .before .before .before .before .put-page .kept .1 .1 .0, c .before .before .before .before .before .before .before .before .before .before .before .before .before .loop .inv .5)
+same-length-2 c = omega (arith, c .before .before .before .before .before .put-page .kept .1 .1 .0, c .before .before .before .before .before .before .before .before .before .before .before .before .loop .inv .5)
 
 returns : tie.Need-returns Inv-loop μ-loop
 returns c =
     let p = c .before .before .before .before .before in
-    let l = c .before .before .before .before .before .before .before .before .before .before .before .before .before in
+    let l = c .before .before .before .before .before .before .before .before .before .before .before .before in
     (λ stored. rest-stop (l .loop .inv .0 stored) _ (sym (p .put-page .ensures .0) ∙ c .if1 .left) (taken-no _ _ _ _ (p .put-page .ensures .1 stored) (c .if1 .left)), p .put-page .ensures .2)
 
 same-length-3 : tie.Need-same-length-3 Inv-loop μ-loop
@@ -128,10 +117,7 @@ put-pages-spec =
     sub-min-2
     min-requires
     add-to
-    mul-wide
-    add-wide
-    element-copy-out-wide
-    wide-requires
+    slot-of-requires
     sub-piece
     part-piece-start
     part-piece-end

@@ -1,6 +1,6 @@
 use borrow.Author.Needs.{needs}
-use Rattle.state_bytes.proofs.no_slots.Statement.{statement}
-use Rattle.state_bytes.proofs.no_slots.Tie as tie
+use Rattle.device.proofs.no_slots.Statement.{statement}
+use Rattle.device.proofs.no_slots.Tie as tie
 
 free-slot-requires : tie.Need-free-slot-requires
 free-slot-requires c κs = search needs
