@@ -9,6 +9,7 @@ use native.Mathlib.Omega.{arith}
 use lib.Dec.{eqb}
 use lib.ListN.{length, length-append}
 use borrow.Author.Tests.{leb-true}
+use borrow.Table.Steps.{cases}
 use Rattle.answer.specs.Coded.{Coded, done, refused, SHAPE, BOOKS, NO-FILE, RANGE}
 use Rattle.answer.specs.Admission.{Test, test, firstRefusal}
 use Rattle.answer.proofs.Admission.{Changeless, first-by}
@@ -34,6 +35,8 @@ use Rattle.device.proofs.Writing.{write-by, pages-most}
 use Rattle.device.proofs.Truncating.{truncate-by}
 use Rattle.device.proofs.Syncing.{sync-by, sync-at-most}
 use Rattle.device.proofs.Mounting.{mount-by, format-by}
+use Rattle.state_bytes.specs.Encoding.{stateBytes}
+use Rattle.state_bytes.specs.InPlace.{Lent, deviceIn, stateShape, onBytes}
 
 -- an answer that is that of a call
 pub counts : {A : Type 0} (a : Coded) (x : A) (r : Result A) (n : ℕ) → give a x ≡ r → r .answer .count ≤ n → a .count ≤ n
@@ -42,6 +45,11 @@ counts a x r n e h = rw (ap (λ q. q .answer .count) e) h
 -- a count that is at most n fits
 pub fits : (a b : Coded) (n : ℕ) → a ≡ b → b .count ≤ n → n < 65536 → a .count < 65536
 fits a b n e h l = rw e (omega arith)
+
+-- a call on bytes counts no more than the call
+pub on-small : (call : Device → Result Device) (n : ℕ) → ((d : Device) → call d .answer .count ≤ n) → (l : Lent) → onBytes call l .answer .count ≤ n
+unfolding onBytes stateShape
+on-small call n most l = cases (eqb (length (l .state)) stateBytes) (λ e. rw e (most (deviceIn l))) (λ e. rw e (omega arith))
 
 module _ (P : ℕ) where
   pub read-small : (f position : ℕ) (buffer : List ℕ) (d : Device) → read P f position buffer d .answer .count ≤ fileBytes P

@@ -24,11 +24,11 @@ use Rattle.device.specs.Syncing.{sync}
 use Rattle.device.specs.Mounting.{mount, format}
 use Rattle.state_bytes.specs.Encoding.{stateBytes, encode}
 use Rattle.state_bytes.specs.Inverse.{Shaped}
-use Rattle.state_bytes.specs.InPlace.{Lent, lent, deviceIn, leavesState, stateAfter}
+use Rattle.state_bytes.specs.InPlace.{Lent, lent, deviceIn, leavesState, stateAfter, stateShape, onBytes}
 use Rattle.state_bytes.proofs.Inverse.{length-encode, inverse}
 use Rattle.state_bytes.proofs.OnState.{Kept, Kind, same-on, write-kept, truncate-kept, sync-kept, mount-kept, format-kept, write-shaped, truncate-shaped, sync-shaped, mount-shaped, format-shaped}
-use Rattle.boxstore.specs.Interface.{wordOf, stateShape, onBytes, readBytes, lookCountBytes, spanWord, lookWord}
-use Rattle.boxstore.proofs.Counts.{write-small, truncate-small, sync-small, mount-small, format-small}
+use Rattle.boxstore.specs.Interface.{wordOf, readBytes, lookCountBytes, spanWord, lookWord}
+use Rattle.boxstore.proofs.Counts.{on-small, write-small, truncate-small, sync-small, mount-small, format-small}
 use Rattle.boxstore.specs.Linked.{OnBytes, Linked}
 
 module _ (call : Device → Result Device) (kept : (d : Device) → Kept d (call d)) where
@@ -54,11 +54,7 @@ module _ (call : Device → Result Device) (kept : (d : Device) → Kept d (call
   any l h e = rw (eq-eqb (length (l .state)) stateBytes h, e)
 
   small : (n : ℕ) → ((d : Device) → call d .answer .count ≤ n) → n < 65536 → (l : Lent) → onBytes call l .answer .count < 65536
-  unfolding onBytes stateShape
-  small n most h l =
-      cases (eqb (length (l .state)) stateBytes)
-      (λ e. rw e (omega (arith, most (deviceIn l))))
-      (λ e. rw e (omega arith))
+  small n most h l = omega (arith, on-small call n most l)
 
 on-bytes : (call : Device → Result Device) → ((d : Device) → Kept d (call d)) → ((d : Device) → Kind d (call d))
     → (n : ℕ) → ((d : Device) → call d .answer .count ≤ n) → n < 65536 → OnBytes call

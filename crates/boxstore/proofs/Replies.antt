@@ -8,8 +8,7 @@ use native.Mathlib.Omega.{arith}
 use lib.Dec.{eqb}
 use lib.ListN.{length, set}
 use borrow.Author.Tests.{eq-eqb, ne-eqb}
-use Rattle.answer.specs.Coded.{Coded}
-use Rattle.device.specs.declared.CacheState.{CacheState}
+use Rattle.answer.specs.Coded.{Coded, SHAPE}
 use Rattle.device.specs.declared.FileSizes.{FileSizes}
 use Rattle.device.specs.declared.Span.{Span}
 use Rattle.device.specs.Device.{Device, downState}
@@ -18,14 +17,18 @@ use Rattle.device.specs.Admission.{Result, give}
 use Rattle.device.specs.Reading.{read}
 use Rattle.device.specs.Looking.{lookCount, lookSpan}
 use Rattle.state_bytes.specs.Encoding.{stateBytes, encoded}
-use Rattle.state_bytes.specs.InPlace.{Lent, lent, deviceIn, stateAfter, onState}
-use Rattle.boxstore.specs.Interface.{wordOf, reply, inWord, stateShape, onBytes, readBytes, lookCountBytes, spanWord, lookWord, downBytes, sizesRecord, truncateSizes}
+use Rattle.state_bytes.specs.InPlace.{Lent, deviceIn, onState, stateShape, onBytes}
+use Rattle.state_bytes.proofs.OnState.{shape-on, length-on}
+use Rattle.boxstore.specs.Interface.{wordOf, reply, inWord, readBytes, lookCountBytes, spanWord, lookWord, downBytes, sizesRecord, truncateSizes}
+
+-- a result in a word
+pub in-word : {A : Type 0} (w : ℕ) (a : Coded) (x : A) (r : Result A) → give a x ≡ r → w ≡ wordOf a → reply w x ≡ inWord r
+in-word w a x r e v = rw v (ap (λ (q : Result _). inWord q) e)
 
 -- a state of another length
 module _ (l : Lent) (h : length (l .state) ≢ stateBytes) where
   pub on-shape : (call : Device → Result Device) → reply 131072 l ≡ inWord (onBytes call l)
-  unfolding onBytes stateShape
-  on-shape call = rw (ne-eqb (length (l .state)) stateBytes h)
+  on-shape call = in-word 131072 SHAPE l (onBytes call l) (shape-on call l h) refl
 
   pub read-shape : (P f position : ℕ) (buffer : List ℕ) → reply 131072 buffer ≡ inWord (readBytes P f position buffer l)
   unfolding readBytes stateShape
@@ -41,14 +44,8 @@ module _ (l : Lent) (h : length (l .state) ≢ stateBytes) where
 
 -- a state of the right length
 module _ (l : Lent) (h : length (l .state) ≡ stateBytes) (w : ℕ) where
-  pub on-call : (call : Device → Result Device) (a : Coded) (d : Device) (state : List ℕ) → give a d ≡ call (deviceIn l)
-      → w ≡ wordOf a → state ≡ stateAfter a (d .cache) (l .state) → reply w (lent (d .media) (d .frames) state) ≡ inWord (onBytes call l)
-  unfolding onBytes stateShape
-  on-call call a d state e v s = rw (eq-eqb (length (l .state)) stateBytes h, ← e, v, s)
-
   pub on-state : (call : Device → Result Device) (a : Coded) (after : Lent) → give a after ≡ onState call l → w ≡ wordOf a → reply w after ≡ inWord (onBytes call l)
-  unfolding onBytes stateShape
-  on-state call a after e v = rw (eq-eqb (length (l .state)) stateBytes h, v) (ap (λ (r : Result Lent). inWord r) e)
+  on-state call a after e v = in-word w a after (onBytes call l) (e ∙ length-on call l h) v
 
   pub read-call : (P f position : ℕ) (buffer after : List ℕ) (a : Coded) → give a after ≡ read P f position buffer (deviceIn l)
       → w ≡ wordOf a → reply w after ≡ inWord (readBytes P f position buffer l)
@@ -58,16 +55,6 @@ module _ (l : Lent) (h : length (l .state) ≡ stateBytes) (w : ℕ) where
   pub look-count-call : (P f position : ℕ) (a : Coded) → a ≡ lookCount P f position (deviceIn l) → w ≡ wordOf a → w ≡ wordOf (lookCountBytes P f position l)
   unfolding lookCountBytes stateShape
   look-count-call P f position a e v = rw (eq-eqb (length (l .state)) stateBytes h, ← e) v
-
--- the bytes of the state, by whether the call leaves one
-module _ (a : Coded) (s : CacheState) (before : List ℕ) where
-  pub after-left : eqb (a .number) 0 || eqb (a .number) 9 ≡ true → length before ≡ stateBytes → encoded s before ≡ stateAfter a s before
-  unfolding stateAfter encoded
-  after-left e h = rw (e, eq-eqb (length before) stateBytes h)
-
-  pub after-kept : eqb (a .number) 0 || eqb (a .number) 9 ≡ false → before ≡ stateAfter a s before
-  unfolding stateAfter
-  after-kept e = rw e
 
 -- where a look's part lies
 pub look-call : (l : Lent) → length (l .state) ≡ stateBytes → (w P f position : ℕ) (s : Span) → s ≡ lookSpan P f position (deviceIn l) → w ≡ spanWord s → w ≡ lookWord P f position l

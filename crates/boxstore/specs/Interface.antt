@@ -5,16 +5,16 @@ use mathlib.Core.List.{List, [], _∷_}
 use lib.Dec.{eqb}
 use lib.ListN.{length, getD}
 use Rattle.answer.specs.Coded.{Coded, done, SHAPE}
-use Rattle.answer.specs.Admission.{Test, test, firstRefusal}
+use Rattle.answer.specs.Admission.{test, firstRefusal}
 use Rattle.device.specs.declared.FileSizes.{FileSizes}
 use Rattle.device.specs.declared.Span.{Span}
-use Rattle.device.specs.Device.{Device, downState}
+use Rattle.device.specs.Device.{downState}
 use Rattle.device.specs.Admission.{Result, give, admit}
 use Rattle.device.specs.Sizes.{sizesAnswer, sizesAfter}
 use Rattle.device.specs.Reading.{read}
 use Rattle.device.specs.Looking.{lookCount, lookSpan}
 use Rattle.state_bytes.specs.Encoding.{stateBytes, encode}
-use Rattle.state_bytes.specs.InPlace.{Lent, deviceIn, onState}
+use Rattle.state_bytes.specs.InPlace.{Lent, deviceIn, stateShape}
 
 -- ---- answers
 
@@ -33,17 +33,7 @@ reply w x = record { word = w; left = x }
 abbrev pub inWord : {A : Type 0} → Result A → Reply A
 inWord r = reply (wordOf (r .answer)) (r .left)
 
--- ---- the state as bytes
-
--- SHAPE, before all others
-unfoldable pub stateShape : List ℕ → List Test
-stateShape state = test (eqb (length state) stateBytes) SHAPE ∷ []
-
--- ---- the calls
-
--- write, truncate, sync, mount and format
-unfoldable pub onBytes : (Device → Result Device) → Lent → Result Lent
-onBytes call l = admit (stateShape (l .state)) l (onState call l)
+-- ---- reads and looks, on a device whose state is lent as bytes; InPlace of state_bytes has the calls that change it (onBytes)
 
 unfoldable pub readBytes : ℕ → ℕ → ℕ → List ℕ → Lent → Result (List ℕ)
 readBytes P f position buffer l = admit (stateShape (l .state)) buffer (read P f position buffer (deviceIn l))

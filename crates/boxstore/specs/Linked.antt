@@ -21,8 +21,8 @@ use Rattle.device.specs.Syncing.{sync}
 use Rattle.device.specs.Mounting.{mount, format}
 use Rattle.state_bytes.specs.Encoding.{stateBytes, encode}
 use Rattle.state_bytes.specs.Inverse.{Shaped}
-use Rattle.state_bytes.specs.InPlace.{Lent, lent, deviceIn, leavesState}
-use Rattle.boxstore.specs.Interface.{wordOf, onBytes, readBytes, lookCountBytes, spanWord, lookWord}
+use Rattle.state_bytes.specs.InPlace.{Lent, lent, deviceIn, leavesState, onBytes}
+use Rattle.boxstore.specs.Interface.{wordOf, readBytes, lookCountBytes, spanWord, lookWord}
 
 pub record OnBytes (call : Device → Result Device) : Type 0 where
   pub same : (m : Media) (frames : List ℕ) (s : CacheState) → Shaped s → let r : Result Device = call (deviceOf m frames s) in

@@ -5,12 +5,10 @@
 // An answer is one word, 65,536 × number + count. Number 0 is done, so a done call answers its count.
 use answer::Answer;
 use device::FileSizes;
-use device::Outcome;
 use device::Span;
 ghost use mathlib.Core.Path.{_≡_};
 ghost use mathlib.Core.List.{List};
 ghost use Prim.Native.Nat.{ℕ, _<_};
-ghost use lib.ListN.{length};
 ghost use Rattle.answer.specs.Coded.{coded};
 ghost use Rattle.media.specs.Geometry.{pagesPerFile};
 ghost use Rattle.media.specs.Write.{mediaOf};
@@ -19,9 +17,8 @@ ghost use Rattle.device.specs.Writing.{write};
 ghost use Rattle.device.specs.Truncating.{truncate};
 ghost use Rattle.device.specs.Syncing.{sync};
 ghost use Rattle.device.specs.Mounting.{mount, format};
-ghost use Rattle.state_bytes.specs.Encoding.{stateBytes};
-ghost use Rattle.state_bytes.specs.InPlace.{lent, leavesState, stateAfter};
-ghost use Rattle.boxstore.specs.Interface.{wordOf, reply, inWord, onBytes, readBytes, lookCountBytes, spanWord, lookWord, downBytes, truncateSizes};
+ghost use Rattle.state_bytes.specs.InPlace.{lent, onBytes};
+ghost use Rattle.boxstore.specs.Interface.{wordOf, reply, inWord, readBytes, lookCountBytes, spanWord, lookWord, downBytes, truncateSizes};
 
 // SHAPE as a word.
 const SHAPE: u32 = 131072;
@@ -34,31 +31,6 @@ fn answer_word(a: Answer) -> u32
     let number = answer::number(a) as u32;
     let count = answer::count(a) as u32;
     65536 * number + count
-}
-
-// Whether a call with this answer leaves a state of its own: done or cut.
-fn leaves_state(a: Answer) -> bool
-    ensures { λ r. ⌜ r ≡ leavesState (coded a) ⌝ }
-{
-    let number = answer::number(a);
-    if number == 0 {
-        return true;
-    }
-    number == 9
-}
-
-// The word of an outcome. The bytes of the state become those of the state that the call left, where it is done or cut.
-fn finish(state: &mut [u8], outcome: Outcome) -> u32
-    requires { ⌜ (length (now state) ≡ stateBytes) × ((coded (outcome .answer)) .count < 65536) ⌝ }
-    ensures { λ r. ⌜ (r ≡ wordOf (coded (outcome .answer))) × (now (state .exit) ≡ stateAfter (coded (outcome .answer)) (outcome .cache) (now (state .entry))) ⌝ }
-{
-    let answer = outcome.answer;
-    let cache = outcome.cache;
-    if leaves_state(answer) {
-        state_bytes::encode(cache, state);
-        return answer_word(answer);
-    }
-    answer_word(answer)
 }
 
 // Down: the state becomes the down state, as at the start and after a loss of power.
@@ -84,12 +56,7 @@ pub extern "C" fn boxstore_format(
     ensures { λ r. ⌜ ((frames : List ℕ) → reply r (lent (mediaOf (now (media .exit)) (now (sizes .exit))) frames (now (state .exit)))
         ≡ inWord (onBytes (format pagesPerFile budget) (lent (mediaOf (now (media .entry)) (now (sizes .entry))) frames (now (state .entry))))) ⌝ }
 {
-    if state.len() != state_bytes::STATE_BYTES {
-        return SHAPE;
-    }
-    let came = state_bytes::decode(state);
-    let outcome = writeback::format(media, sizes, came, budget);
-    finish(state, outcome)
+    answer_word(writeback::format(media, sizes, state, budget))
 }
 
 // Mount: brings the device up, with no page cached and the stored sizes.
@@ -103,12 +70,7 @@ pub extern "C" fn boxstore_mount(
     ensures { λ r. ⌜ ((frames : List ℕ) → reply r (lent (mediaOf (now (media .exit)) (now (sizes .exit))) frames (now (state .exit)))
         ≡ inWord (onBytes (mount pagesPerFile budget) (lent (mediaOf (now (media .entry)) (now (sizes .entry))) frames (now (state .entry))))) ⌝ }
 {
-    if state.len() != state_bytes::STATE_BYTES {
-        return SHAPE;
-    }
-    let came = state_bytes::decode(state);
-    let outcome = writeback::mount(media, sizes, came, budget);
-    finish(state, outcome)
+    answer_word(writeback::mount(media, sizes, state, budget))
 }
 
 // Read: copies as many bytes as the buffer takes, up to the logical size, and counts them.

@@ -1,8 +1,8 @@
 // The calls of the store, with the cache state by value: it goes in, and comes back from each call that can change it.
 //
 // A call borrows the media (bytes and stored sizes), the page frames, and buffers of its own. Start with `down_state` and a mount.
-// The calls on a file work on the bytes of the state (crates reading, writing and writeback), for callers that keep it so; here
-// these bytes are made and read.
+// The calls work on the bytes of the state (crates reading, writing and writeback), for callers that keep it so; here these bytes
+// are made and read.
 pub use answer::Answer;
 pub use answer::Refusal;
 pub use cache_state::down_state;
@@ -16,12 +16,12 @@ pub use media::FILES;
 pub use media::PAGE_BYTES;
 pub use media::PAGES_PER_FILE;
 use state_bytes::STATE_BYTES;
-pub use writeback::format;
-pub use writeback::mount;
 pub use writing::sizes_after;
 pub use writing::sizes_answer;
 pub use writing::truncate_sizes;
 ghost use mathlib.Core.Path.{_≡_};
+ghost use mathlib.Core.List.{List};
+ghost use Prim.Native.Nat.{ℕ};
 ghost use denote.Ref.{ptr};
 ghost use Rattle.answer.specs.Coded.{coded};
 ghost use Rattle.media.specs.Geometry.{pagesPerFile};
@@ -33,6 +33,7 @@ ghost use Rattle.device.specs.Looking.{lookCount, lookSpan, look, lookPlace};
 ghost use Rattle.device.specs.Writing.{write};
 ghost use Rattle.device.specs.Truncating.{truncate};
 ghost use Rattle.device.specs.Syncing.{sync};
+ghost use Rattle.device.specs.Mounting.{mount, format};
 ghost use Rattle.state_bytes.specs.Encoding.{encode};
 
 // The bytes of a state.
@@ -172,6 +173,33 @@ pub fn sync(
 {
     let mut state = bytes_of(cache);
     let answer = writeback::sync(media, sizes, frames, &mut state, file, budget);
+    Outcome {
+        answer,
+        cache: state_bytes::decode(&state),
+    }
+}
+
+// Mount: brings the device up, with no page cached and the stored sizes. Bytes past a stored size are cleared first, by TRIM.
+// The state that comes in is not looked at.
+pub fn mount(media: &mut [u8], sizes: &mut [u32], cache: CacheState, budget: usize) -> Outcome
+    ensures { λ r. ⌜ ((frames : List ℕ) → give (coded (r .answer)) (deviceOf (mediaOf (now (media .exit)) (now (sizes .exit))) frames (r .cache))
+        ≡ mount pagesPerFile budget (deviceOf (mediaOf (now (media .entry)) (now (sizes .entry))) frames cache)) ⌝ }
+{
+    let mut state = bytes_of(cache);
+    let answer = writeback::mount(media, sizes, &mut state, budget);
+    Outcome {
+        answer,
+        cache: state_bytes::decode(&state),
+    }
+}
+
+// Format: empties all files, by TRIM to 0. The device is down after it, done or cut. The state that comes in is not looked at.
+pub fn format(media: &mut [u8], sizes: &mut [u32], cache: CacheState, budget: usize) -> Outcome
+    ensures { λ r. ⌜ ((frames : List ℕ) → give (coded (r .answer)) (deviceOf (mediaOf (now (media .exit)) (now (sizes .exit))) frames (r .cache))
+        ≡ format pagesPerFile budget (deviceOf (mediaOf (now (media .entry)) (now (sizes .entry))) frames cache)) ⌝ }
+{
+    let mut state = bytes_of(cache);
+    let answer = writeback::format(media, sizes, &mut state, budget);
     Outcome {
         answer,
         cache: state_bytes::decode(&state),

@@ -91,6 +91,13 @@ overwrite-fits (x ∷ xs) [] (suc n) h = refl
 overwrite-fits (x ∷ xs) (y ∷ ys) zero h = absurd (omega arith)
 overwrite-fits (x ∷ xs) (y ∷ ys) (suc n) h = ap (λ (l : List ℕ). y ∷ l) (overwrite-fits xs ys n (omega arith))
 
+-- the front that was laid over
+pub take-overwrite : (xs ys : List ℕ) (n : ℕ) → n ≤ length xs → n ≤ length ys → take n (overwrite xs 0 (take n ys)) ≡ take n ys
+take-overwrite xs ys zero h k = refl
+take-overwrite [] ys (suc n) h k = absurd (not-suc-le-zero h)
+take-overwrite (x ∷ xs) [] (suc n) h k = absurd (not-suc-le-zero k)
+take-overwrite (x ∷ xs) (y ∷ ys) (suc n) h k = ap (λ (l : List ℕ). y ∷ l) (take-overwrite xs ys n (le-of-suc-le-suc h) (le-of-suc-le-suc k))
+
 -- one byte more
 pub overwrite-next : (xs ys : List ℕ) (i : ℕ) → i < length xs → i < length ys → set (overwrite xs 0 (take i ys)) i (getD ys i 0) ≡ overwrite xs 0 (take (i + 1) ys)
 overwrite-next xs ys i h k = rw add-one (go xs ys i h k)
@@ -119,6 +126,15 @@ overwrite-join-at (x ∷ xs) zero (y ∷ ys) zs = rw add-suc (ap (λ (l : List �
 
 pub overwrite-join : (xs ys zs : List ℕ) → overwrite xs 0 (ys ++ zs) ≡ overwrite (overwrite xs 0 ys) (length ys) zs
 overwrite-join xs ys zs = rw zero-add at (overwrite-join-at xs 0 ys zs)
+
+-- one list over another, at the same place
+pub overwrite-over : (xs : List ℕ) (a : ℕ) (ys zs : List ℕ) → length zs ≤ length ys → overwrite (overwrite xs a ys) a zs ≡ overwrite xs a (overwrite ys 0 zs)
+overwrite-over [] a ys zs h = refl
+overwrite-over (x ∷ xs) (suc a) ys zs h = ap (λ (l : List ℕ). x ∷ l) (overwrite-over xs a ys zs h)
+overwrite-over (x ∷ xs) zero [] [] h = refl
+overwrite-over (x ∷ xs) zero [] (z ∷ zs) h = absurd (not-suc-le-zero h)
+overwrite-over (x ∷ xs) zero (y ∷ ys) [] h = refl
+overwrite-over (x ∷ xs) zero (y ∷ ys) (z ∷ zs) h = ap (λ (l : List ℕ). z ∷ l) (overwrite-over xs zero ys zs (le-of-suc-le-suc h))
 
 -- a list of one byte, and the first byte of any
 pub overwrite-one : (xs : List ℕ) (a b : ℕ) → overwrite xs a (b ∷ []) ≡ set xs a b

@@ -5,15 +5,15 @@ use mathlib.Core.Bool.{Bool, true, false, false≢true}
 use mathlib.Core.List.{List, [], _∷_, append-nil}
 use Prim.Native.Nat.{ℕ, zero, suc, _/_, _%_, _-_}
 use lib.Dec.{eqb}
-use lib.ListN.{take, length-set, length-map, length-replicate}
+use lib.ListN.{length, take, length-set, length-map, length-replicate}
 use borrow.Table.Steps.{cases}
 use borrow.Author.Tests.{eq-eqb, ne-eqb}
 use Rattle.scan.proofs.Scan.{true-not-false}
 use Rattle.answer.specs.declared.Refusal.{Refusal}
-use Rattle.answer.specs.Coded.{Coded, done, codedRefusal}
+use Rattle.answer.specs.Coded.{Coded, done, SHAPE, codedRefusal}
 use Rattle.answer.specs.Admission.{Test, firstRefusal}
 use Rattle.answer.proofs.Coded.{refusal-number}
-use Rattle.answer.proofs.Admission.{first-by}
+use Rattle.answer.proofs.Admission.{Changeless, first-by}
 use Rattle.media.specs.Geometry.{files, pageBytes}
 use Rattle.media.specs.Write.{Media}
 use Rattle.device.specs.declared.CacheState.{CacheState}
@@ -28,9 +28,9 @@ use Rattle.device.proofs.Writing.{write-by}
 use Rattle.device.proofs.Truncating.{truncate-by}
 use Rattle.device.proofs.Syncing.{sync-by}
 use Rattle.device.proofs.Mounting.{mount-by, format-by}
-use Rattle.state_bytes.specs.Encoding.{encode, decode}
+use Rattle.state_bytes.specs.Encoding.{stateBytes, encode, decode}
 use Rattle.state_bytes.specs.Inverse.{Shaped}
-use Rattle.state_bytes.specs.InPlace.{Lent, lent, deviceIn, lentOf, IsEncoded, leavesState, stateAfter, onState}
+use Rattle.state_bytes.specs.InPlace.{Lent, lent, deviceIn, lentOf, IsEncoded, leavesState, stateAfter, onState, stateShape, onBytes}
 use Rattle.state_bytes.proofs.Inverse.{inverse}
 
 -- a result that is not done and not cut leaves the device as it came
@@ -92,16 +92,30 @@ module _ (call : Device → Result Device) (l : Lent) (a : Coded) where
       let q : l .state ≡ state = sym came ∙ ap (λ (c : Device). encode (c .cache)) (sym k) ∙ left in
       ap (λ (x : List ℕ). give a (lent m frames x)) (sym q) ∙ refused-on call l a d (sym e) h)
 
--- a refusal of the tests of a file is neither done nor cut
-pub refused-leaves : (P f : ℕ) (range : Bool) (d : Device) (x : Refusal) → codedRefusal x ≡ firstRefusal (fileTests P d f range) (done 0)
-    → leavesState (codedRefusal x) ≡ false
-refused-leaves P f range d x e =
-    let ts : List Test = fileTests P d f range in
+-- a refusal of tests whose refusals change nothing is neither done nor cut
+pub changeless-leaves : (ts : List Test) → Changeless ts → (x : Refusal) → codedRefusal x ≡ firstRefusal ts (done 0) → leavesState (codedRefusal x) ≡ false
+changeless-leaves ts h x e =
     let some : codedRefusal x .number ≢ 0 = λ z. true-not-false (eqb (codedRefusal x .number) 0) (eq-eqb (codedRefusal x .number) 0 z) (refusal-number x) in
     let by : firstRefusal ts (done 0) .number ≢ 0 → leavesState (firstRefusal ts (done 0)) ≡ false =
-    first-by (λ a. a .number ≢ 0 → leavesState a ≡ false) ts (done 0) (rw append-nil at (file-changeless P d f range [] tt))
+    first-by (λ a. a .number ≢ 0 → leavesState a ≡ false) ts (done 0) h
     (λ k lo hi n. rw (ne-eqb k 0 n, ne-eqb k 9 hi)) (λ h n. absurd (n refl)) in
     rw e (by (rw (← e) some))
+
+-- of the tests of a file
+pub refused-leaves : (P f : ℕ) (range : Bool) (d : Device) (x : Refusal) → codedRefusal x ≡ firstRefusal (fileTests P d f range) (done 0)
+    → leavesState (codedRefusal x) ≡ false
+refused-leaves P f range d = changeless-leaves (fileTests P d f range) (rw append-nil at (file-changeless P d f range [] tt))
+
+-- ---- a call that refuses a buffer of another length
+
+module _ (call : Device → Result Device) (l : Lent) where
+  pub shape-on : length (l .state) ≢ stateBytes → give SHAPE l ≡ onBytes call l
+  unfolding onBytes stateShape
+  shape-on h = rw (ne-eqb (length (l .state)) stateBytes h)
+
+  pub length-on : length (l .state) ≡ stateBytes → onState call l ≡ onBytes call l
+  unfolding onBytes stateShape
+  length-on h = rw (eq-eqb (length (l .state)) stateBytes h)
 
 -- ---- what is done or cut is no refusal that changes nothing
 

@@ -2,14 +2,16 @@
 use Prim.Native.Nat.{ℕ}
 use mathlib.Core.Path.{_≡_}
 use mathlib.Core.Bool.{Bool, cond, _||_}
-use mathlib.Core.List.{List}
+use mathlib.Core.List.{List, [], _∷_}
 use lib.Dec.{eqb}
-use Rattle.answer.specs.Coded.{Coded}
+use lib.ListN.{length}
+use Rattle.answer.specs.Coded.{Coded, SHAPE}
+use Rattle.answer.specs.Admission.{Test, test}
 use Rattle.media.specs.Write.{Media}
 use Rattle.device.specs.declared.CacheState.{CacheState}
 use Rattle.device.specs.Device.{Device, deviceOf}
-use Rattle.device.specs.Admission.{Result, give}
-use Rattle.state_bytes.specs.Encoding.{encode, decode}
+use Rattle.device.specs.Admission.{Result, give, admit}
+use Rattle.state_bytes.specs.Encoding.{stateBytes, encode, decode}
 
 -- the device as it is lent
 pub record Lent : Type 0 where
@@ -39,8 +41,16 @@ leavesState a = eqb (a .number) 0 || eqb (a .number) 9
 unfoldable pub stateAfter : Coded → CacheState → List ℕ → List ℕ
 stateAfter a s before = cond (leavesState a) (encode s) before
 
--- write, truncate, sync, mount and format
+-- write, truncate and sync, which refuse bytes that say no sound state
 abbrev pub onState : (Device → Result Device) → Lent → Result Lent
 onState call l =
     let r : Result Device = call (deviceIn l) in
     give (r .answer) (lent (r .left .media) (r .left .frames) (stateAfter (r .answer) (r .left .cache) (l .state)))
+
+-- SHAPE, before all others: the buffer is not as long as a state
+unfoldable pub stateShape : List ℕ → List Test
+stateShape state = test (eqb (length state) stateBytes) SHAPE ∷ []
+
+-- mount and format, which do not look at the bytes; and every call as it is linked
+unfoldable pub onBytes : (Device → Result Device) → Lent → Result Lent
+onBytes call l = admit (stateShape (l .state)) l (onState call l)

@@ -1,31 +1,30 @@
 // The calls that write to the media: sync, mount and format.
 //
 // Each carries out a plan of media writes. Where the budget pays for all of them, it is done with their number as count. Where it
-// does not, as many first writes are done as it pays for, the answer is CUT, and the state that is left is down. Sync works on the bytes
-// of the state; mount and format do not look at it, and take and return it by value.
+// does not, as many first writes are done as it pays for, the answer is CUT, and the state that is left is down. The state is lent as
+// bytes. Mount and format do not look at them, and refuse a buffer of another length.
 use answer::Answer;
 use answer::Refusal;
 use device::CacheState;
-use device::Outcome;
 ghost use mathlib.Core.Path.{_≡_};
 ghost use mathlib.Core.Bool.{not, _||_};
 ghost use mathlib.Core.List.{List};
 ghost use Prim.Native.Nat.{ℕ, _+_, _≤_, _<_, _^_};
 ghost use lib.ListN.{length, getD};
 ghost use lib.Dec.{eqb, ltb};
-ghost use Rattle.answer.specs.Coded.{coded};
+ghost use Rattle.answer.specs.Coded.{coded, CUT};
 ghost use Rattle.memory.specs.Bytes.{part};
 ghost use Rattle.media.specs.Geometry.{files, pagesPerFile, pageBytes, fileBytes, mediaBytes};
 ghost use Rattle.media.specs.Write.{Media, mediaOf, sizeAt, apply};
 ghost use Rattle.media.specs.Write.MediaWrite.{page, size, trim};
 ghost use Rattle.scan.specs.Scan.{every};
-ghost use Rattle.device.specs.Device.{Device, deviceOf, slotCount, framesBytes, frameStart};
+ghost use Rattle.device.specs.Device.{Device, deviceOf, slotCount, framesBytes, frameStart, downState};
 ghost use Rattle.device.specs.Admission.{give};
 ghost use Rattle.device.specs.Plan.{writeIf, budgeted, Spent};
 ghost use Rattle.device.specs.Syncing.{pageWrites, syncPlan, syncedState, sync};
 ghost use Rattle.device.specs.Mounting.{nonzeroFrom, mountPlan, mount, formatPlan, format};
-ghost use Rattle.state_bytes.specs.Encoding.{decode};
-ghost use Rattle.state_bytes.specs.InPlace.{lent, IsEncoded, onState};
+ghost use Rattle.state_bytes.specs.Encoding.{stateBytes, encoded, decode};
+ghost use Rattle.state_bytes.specs.InPlace.{lent, IsEncoded, onState, onBytes};
 ghost use Rattle.cache_state.specs.Tables.{slotTable};
 
 // TRIM, if it is wanted and the budget pays. The number of writes needed so far comes back, with this one.
@@ -180,6 +179,14 @@ fn sync_state(state: &mut [u8], file: usize)
     state_bytes::set_floor(state, file, logical);
 }
 
+// CUT, of a call whose budget did not pay for all its writes: the state becomes the down state.
+fn cut(state: &mut [u8], budget: usize) -> Answer
+    ensures { λ r. ⌜ (coded r ≡ CUT budget) × (now (state .exit) ≡ encoded downState (now (state .entry))) ⌝ }
+{
+    state_bytes::encode(cache_state::down_state(), state);
+    Answer::Refused(Refusal::Cut(budget))
+}
+
 // Sync: stores a file. Its TRIM, its cached pages and its SIZE go to the media; after it its pages are free. A sync that is cut leaves
 // the device down.
 pub fn sync(
@@ -200,8 +207,7 @@ pub fn sync(
         Answer::Done(_) => {
             let needed = sync_writes(media, sizes, frames, state, &slots, file, budget);
             if budget < needed {
-                state_bytes::encode(cache_state::down_state(), state);
-                return Answer::Refused(Refusal::Cut(budget));
+                return cut(state, budget);
             }
             sync_state(state, file);
             Answer::Done(needed)
@@ -209,21 +215,18 @@ pub fn sync(
     }
 }
 
-// What a call gives that needed so many media writes: done with their number and this state; or CUT, which leaves the device
-// down.
-fn outcome(writes: usize, budget: usize, state: CacheState) -> Outcome
-    ensures { λ r. ⌜ ((m : Media) (frames : List ℕ) → give (coded (r .answer)) (deviceOf m frames (r .cache)) ≡ budgeted budget writes m frames state) ⌝ }
+// The end of a call that needed so many media writes: done with their number, and the bytes of this state; or CUT, which leaves the
+// device down.
+fn finish(state: &mut [u8], writes: usize, budget: usize, cache: CacheState) -> Answer
+    requires { ⌜ length (now state) ≡ stateBytes ⌝ }
+    ensures { λ r. ⌜ ((m : Media) (frames : List ℕ) → give (coded r) (lent m frames (now (state .exit)))
+        ≡ onState (λ d. budgeted budget writes m frames cache) (lent m frames (now (state .entry)))) ⌝ }
 {
     if budget < writes {
-        return Outcome {
-            answer: Answer::Refused(Refusal::Cut(budget)),
-            cache: cache_state::down_state(),
-        };
+        return cut(state, budget);
     }
-    Outcome {
-        answer: Answer::Done(writes),
-        cache: state,
-    }
+    state_bytes::encode(cache, state);
+    Answer::Done(writes)
 }
 
 // The bitwise or of the bytes, which is 0 where all of them are. The loop goes to the end, so that it becomes vector code.
@@ -316,20 +319,20 @@ fn sizes_array(sizes: &[u32]) -> [u32; media::FILES]
 
 // Mount: brings the device up, with no page cached and the stored sizes. Bytes past a stored size are cleared first, by TRIM.
 // The state that comes in is not looked at.
-pub fn mount(media: &mut [u8], sizes: &mut [u32], cache: CacheState, budget: usize) -> Outcome
-    ensures { λ r. ⌜ ((frames : List ℕ) → give (coded (r .answer)) (deviceOf (mediaOf (now (media .exit)) (now (sizes .exit))) frames (r .cache))
-        ≡ mount pagesPerFile budget (deviceOf (mediaOf (now (media .entry)) (now (sizes .entry))) frames cache)) ⌝ }
+pub fn mount(media: &mut [u8], sizes: &mut [u32], state: &mut [u8], budget: usize) -> Answer
+    ensures { λ r. ⌜ ((frames : List ℕ) → give (coded r) (lent (mediaOf (now (media .exit)) (now (sizes .exit))) frames (now (state .exit)))
+        ≡ onBytes (mount pagesPerFile budget) (lent (mediaOf (now (media .entry)) (now (sizes .entry))) frames (now (state .entry)))) ⌝ }
 {
+    if state.len() != state_bytes::STATE_BYTES {
+        return Answer::Refused(Refusal::Shape);
+    }
     let admission = cache_state::admit_mount(media, sizes);
     match admission {
-        Answer::Refused(refusal) => Outcome {
-            answer: Answer::Refused(refusal),
-            cache,
-        },
+        Answer::Refused(refusal) => Answer::Refused(refusal),
         Answer::Done(_) => {
             let found = sizes_array(sizes);
             let trims = mount_files(media, sizes, budget);
-            outcome(trims, budget, cache_state::mounted_state(found))
+            finish(state, trims, budget, cache_state::mounted_state(found))
         }
     }
 }
@@ -363,19 +366,19 @@ fn format_files(media: &mut [u8], sizes: &mut [u32], budget: usize) -> usize
 }
 
 // Format: empties all files, by TRIM to 0. The device is down after it, done or cut. The state that comes in is not looked at.
-pub fn format(media: &mut [u8], sizes: &mut [u32], cache: CacheState, budget: usize) -> Outcome
-    ensures { λ r. ⌜ ((frames : List ℕ) → give (coded (r .answer)) (deviceOf (mediaOf (now (media .exit)) (now (sizes .exit))) frames (r .cache))
-        ≡ format pagesPerFile budget (deviceOf (mediaOf (now (media .entry)) (now (sizes .entry))) frames cache)) ⌝ }
+pub fn format(media: &mut [u8], sizes: &mut [u32], state: &mut [u8], budget: usize) -> Answer
+    ensures { λ r. ⌜ ((frames : List ℕ) → give (coded r) (lent (mediaOf (now (media .exit)) (now (sizes .exit))) frames (now (state .exit)))
+        ≡ onBytes (format pagesPerFile budget) (lent (mediaOf (now (media .entry)) (now (sizes .entry))) frames (now (state .entry)))) ⌝ }
 {
+    if state.len() != state_bytes::STATE_BYTES {
+        return Answer::Refused(Refusal::Shape);
+    }
     let admission = cache_state::admit_format(media, sizes);
     match admission {
-        Answer::Refused(refusal) => Outcome {
-            answer: Answer::Refused(refusal),
-            cache,
-        },
+        Answer::Refused(refusal) => Answer::Refused(refusal),
         Answer::Done(_) => {
             let trims = format_files(media, sizes, budget);
-            outcome(trims, budget, cache_state::down_state())
+            finish(state, trims, budget, cache_state::down_state())
         }
     }
 }

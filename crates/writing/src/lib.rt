@@ -21,7 +21,7 @@ ghost use Rattle.media.specs.Geometry.{files, fileBytes, mediaBytes, pageBytes,
 ghost use Rattle.media.specs.Write.{mediaOf};
 ghost use Rattle.scan.specs.Scan.{firstIndex};
 ghost use Rattle.device.specs.declared.CacheState.{CacheState};
-ghost use Rattle.device.specs.Device.{freeWhere, withLogical, withSlots, deviceOf, slotCount, framesBytes, isFree, holds};
+ghost use Rattle.device.specs.Device.{freeWhere, withLogical, withSlots, deviceOf, slotCount, framesBytes, frameStart, isFree, holds};
 ghost use Rattle.device.specs.Admission.{give};
 ghost use Rattle.device.specs.Sound.{sizesIn};
 ghost use Rattle.device.specs.Sizes.{truncatedSizes, sizesAnswer, sizesAfter};
@@ -31,19 +31,6 @@ ghost use Rattle.state_bytes.specs.Encoding.{decode};
 ghost use Rattle.state_bytes.specs.InPlace.{lent, IsEncoded, onState};
 ghost use Rattle.cache_state.specs.Tables.{slotTable};
 
-// A page as it becomes cached: a blank page, overlaid with the bytes of the media below the floor.
-fn filled_page(media: &[u8], floor: usize, file: usize, page: usize, pages: usize) -> [u8; 256]
-    requires { ⌜ (fileBytes pages < 2 ^ 32) × (length (now media) ≡ mediaBytes pages) × (file < files) × (page < pages) ⌝ }
-    ensures { λ r. ⌜ r ≡ overwrite blankPage 0 (part (now (media .entry)) (pageStart pages file page) (min pageBytes (floor - pageBytes * page))) ⌝ }
-{
-    let at = PAGE_BYTES * page;
-    let from = file * (PAGE_BYTES * pages) + at;
-    let end = from + number::min(PAGE_BYTES, number::saturating_sub(floor, at));
-    let mut blank = [0u8; 256];
-    memory::copy(&mut blank, &media[from..end]);
-    blank
-}
-
 // The bytes are laid over the page frames from `at` on.
 fn patch_frames(frames: &mut [u8], at: usize, bytes: &[u8])
     requires { ⌜ (length (now frames) ≡ framesBytes) × (at + length (now bytes) ≤ framesBytes) ⌝ }
@@ -51,6 +38,29 @@ fn patch_frames(frames: &mut [u8], at: usize, bytes: &[u8])
 {
     let end = at + bytes.len();
     memory::copy(&mut frames[at..end], bytes);
+}
+
+// The page frame of slot k gets a page as it becomes cached: a blank page, overlaid with the bytes of the media below the floor.
+fn fill_frame(
+    media: &[u8],
+    frames: &mut [u8],
+    floor: usize,
+    file: usize,
+    page: usize,
+    k: usize,
+    pages: usize,
+)
+    requires { ⌜ (fileBytes pages < 2 ^ 32) × (length (now media) ≡ mediaBytes pages) × (length (now frames) ≡ framesBytes) × (file < files) × (page < pages)
+        × (k < slotCount) ⌝ }
+    ensures { λ r. ⌜ now (frames .exit) ≡ overwrite (now (frames .entry)) (frameStart k)
+        (overwrite blankPage 0 (part (now (media .entry)) (pageStart pages file page) (min pageBytes (floor - pageBytes * page)))) ⌝ }
+{
+    let at = PAGE_BYTES * page;
+    let from = file * (PAGE_BYTES * pages) + at;
+    let end = from + number::min(PAGE_BYTES, number::saturating_sub(floor, at));
+    let blank = [0u8; 256];
+    patch_frames(frames, PAGE_BYTES * k, &blank);
+    patch_frames(frames, PAGE_BYTES * k, &media[from..end]);
 }
 
 // A page becomes cached, in slot k, the first that is free.
@@ -70,8 +80,7 @@ fn cache_page(
         × IsEncoded (now (state .exit)) ⌝ }
 {
     let floor = state_bytes::floor_at(state, file) as usize;
-    let bytes = filled_page(media, floor, file, page, pages);
-    patch_frames(frames, PAGE_BYTES * k, &bytes);
+    fill_frame(media, frames, floor, file, page, k, pages);
     let slot = Slot {
         used: true,
         file: file as u8,

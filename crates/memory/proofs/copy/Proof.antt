@@ -21,81 +21,58 @@ min-requires c κs = search needs
 loop-holds : tie.Need-loop-holds Inv-loop μ-loop
 loop-holds c = (sym (overwrite-none _ 0), search needs, search needs, search needs)
 
-sub-loop : tie.Need-sub-loop Inv-loop μ-loop
-sub-loop c = search needs
+sub-min : tie.Need-sub-min Inv-loop μ-loop
+sub-min c = search needs
 
-add-to : tie.Need-add-to Inv-loop μ-loop
-add-to c = search needs
+min-requires-2 : tie.Need-min-requires-2 Inv-loop μ-loop
+min-requires-2 c κs = search needs
 
-sub-copy-bytes : tie.Need-sub-copy-bytes Inv-loop μ-loop
-sub-copy-bytes c = search needs
+sub-copy-block : tie.Need-sub-copy-block Inv-loop μ-loop
+sub-copy-block c = search needs
 
-part-copy-bytes-start : tie.Need-part-copy-bytes-start Inv-loop μ-loop
-part-copy-bytes-start c = search needs
+part-copy-block-start : tie.Need-part-copy-block-start Inv-loop μ-loop
+part-copy-block-start c = search needs
 
-part-copy-bytes-end : tie.Need-part-copy-bytes-end Inv-loop μ-loop
-part-copy-bytes-end c = search needs
+part-copy-block-end : tie.Need-part-copy-block-end Inv-loop μ-loop
+part-copy-block-end c = search needs
 
-sub-copy-bytes-2 : tie.Need-sub-copy-bytes-2 Inv-loop μ-loop
-sub-copy-bytes-2 c = search needs
+sub-copy-block-2 : tie.Need-sub-copy-block-2 Inv-loop μ-loop
+sub-copy-block-2 c = search needs
 
-part-copy-bytes-start-2 : tie.Need-part-copy-bytes-start-2 Inv-loop μ-loop
-part-copy-bytes-start-2 c = search needs
+part-copy-block-start-2 : tie.Need-part-copy-block-start-2 Inv-loop μ-loop
+part-copy-block-start-2 c = search needs
 
-part-copy-bytes-end-2 : tie.Need-part-copy-bytes-end-2 Inv-loop μ-loop
-part-copy-bytes-end-2 c = search needs
+part-copy-block-end-2 : tie.Need-part-copy-block-end-2 Inv-loop μ-loop
+part-copy-block-end-2 c = search needs
 
-copy-bytes-requires : tie.Need-copy-bytes-requires Inv-loop μ-loop
-copy-bytes-requires c κs = search needs
+copy-block-requires : tie.Need-copy-block-requires Inv-loop μ-loop
+copy-block-requires c κs = search needs
+
+add-i : tie.Need-add-i Inv-loop μ-loop
+add-i c = search needs
 
 loop-less : tie.Need-loop-less Inv-loop μ-loop
 loop-less c = search needs
 
 loop-again : tie.Need-loop-again Inv-loop μ-loop
 loop-again c =
-    let l = c .before .before .before .before .before .before in
-    let a = c .before .before .before .before .before .before .before .before .before .before .args in
+    let l = c .before .before .before .before .before .before .before in
+    let a = c .before .before .before .before .before .before .before .before .before .before .before .args in
     let i = l .loop .i in
+    let m = c .before .before .before .before .before .min2 .result in
     let next =
-    put-next i (i + 256) (i + 256) 256 (a .dst .now) (a .src .now) (l .loop .dst) (c .before .before .copy-bytes .last .0) (l .loop .inv .0) (c .before .before .copy-bytes .ensures)
-    (omega arith) (omega arith) (omega arith) (omega arith) (omega arith) in
-    (next, ap length next ∙ length-overwrite (a .dst .now) 0 (take (i + 256) (a .src .now)), search needs, search needs)
-
-sub-copy-bytes-3 : tie.Need-sub-copy-bytes-3 Inv-loop μ-loop
-sub-copy-bytes-3 c = search needs
-
-part-copy-bytes-start-3 : tie.Need-part-copy-bytes-start-3 Inv-loop μ-loop
-part-copy-bytes-start-3 c = search needs
-
-part-copy-bytes-end-3 : tie.Need-part-copy-bytes-end-3 Inv-loop μ-loop
-part-copy-bytes-end-3 c = search needs
-
-sub-copy-bytes-4 : tie.Need-sub-copy-bytes-4 Inv-loop μ-loop
-sub-copy-bytes-4 c = search needs
-
-part-copy-bytes-start-4 : tie.Need-part-copy-bytes-start-4 Inv-loop μ-loop
-part-copy-bytes-start-4 c = search needs
-
-part-copy-bytes-end-4 : tie.Need-part-copy-bytes-end-4 Inv-loop μ-loop
-part-copy-bytes-end-4 c = search needs
-
-sub-copy-bytes-5 : tie.Need-sub-copy-bytes-5 Inv-loop μ-loop
-sub-copy-bytes-5 c = search needs
-
-copy-bytes-requires-2 : tie.Need-copy-bytes-requires-2 Inv-loop μ-loop
-copy-bytes-requires-2 c κs = search needs
+    put-next i (length (l .loop .dst)) (length (a .src .now)) m (a .dst .now) (a .src .now) (l .loop .dst) (c .before .before .copy-block .last .0) (l .loop .inv .0)
+    (c .before .before .copy-block .ensures) (omega arith) (omega arith) (omega arith) (omega arith) (omega arith) in
+    (next, ap length next ∙ length-overwrite (a .dst .now) 0 (take (i + m) (a .src .now)), search needs, search needs)
 
 same-length : tie.Need-same-length Inv-loop μ-loop
 same-length c = search needs
 
 returns : tie.Need-returns Inv-loop μ-loop
 returns c =
-    let l = c .before .before .before .before .before .before in
-    let a = c .before .before .before .before .before .before .before .before .before .before .args in
-    let i = l .loop .i in
-    put-next i (length (l .loop .dst)) (length (a .src .now)) (l .before .min .result - i) (a .dst .now) (a .src .now) (l .loop .dst) (c .before .before .copy-bytes2 .last .0) (l .loop .inv .0)
-    (c .before .before .copy-bytes2 .ensures) (omega arith) (omega arith) (omega arith) (omega arith) (omega arith)
-    ∙ overwrite-fits (a .dst .now) (a .src .now) (i + (l .before .min .result - i)) (omega arith)
+    let l = c .before in
+    let a = c .before .before .before .before .before .args in
+    l .loop .inv .0 ∙ overwrite-fits (a .dst .now) (a .src .now) (l .loop .i) (omega arith)
 
 pub copy-spec : {M : Type 1} → statement M
 copy-spec =
@@ -105,24 +82,17 @@ copy-spec =
     μ-loop
     min-requires
     loop-holds
-    sub-loop
-    add-to
-    sub-copy-bytes
-    part-copy-bytes-start
-    part-copy-bytes-end
-    sub-copy-bytes-2
-    part-copy-bytes-start-2
-    part-copy-bytes-end-2
-    copy-bytes-requires
+    sub-min
+    min-requires-2
+    sub-copy-block
+    part-copy-block-start
+    part-copy-block-end
+    sub-copy-block-2
+    part-copy-block-start-2
+    part-copy-block-end-2
+    copy-block-requires
+    add-i
     loop-less
     loop-again
-    sub-copy-bytes-3
-    part-copy-bytes-start-3
-    part-copy-bytes-end-3
-    sub-copy-bytes-4
-    part-copy-bytes-start-4
-    part-copy-bytes-end-4
-    sub-copy-bytes-5
-    copy-bytes-requires-2
     same-length
     returns)

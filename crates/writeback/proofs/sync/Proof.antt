@@ -59,11 +59,8 @@ sync-writes-requires c κs =
       b .admit .ensures .1 ∙ rw (t .enum-told .given .1) (sym (table-done _ (decode (a .state .now) .slots))),
     )
 
-down-state-requires : tie.Need-down-state-requires
-down-state-requires c κs = search needs
-
-encode-requires : tie.Need-encode-requires
-encode-requires c κs = search needs
+cut-requires : tie.Need-cut-requires
+cut-requires c κs = search needs
 
 same-length : tie.Need-same-length
 same-length c = search needs
@@ -76,12 +73,13 @@ same-length-3 c = search needs
 
 returns : tie.Need-returns
 returns c =
-    let e = c .before .before in
-    let w = c .before .before .before .before .before .before .before .before .before .before in
+    let k = c .before .before in
+    let w = c .before .before .before .before .before .before .before .before .before in
     let t = w .before .before .before .before .before in
     let s = start t in
-    cut-ends pagesPerFile (s .args .file) (s .args .budget) (device s) (w .sync-writes .result) _ (w .sync-writes .ensures) (all t) _ (omega arith)
-    (sound-length pagesPerFile (s .args .sizes .now) (s .args .state .now) (ready t .sound)) (rw (e .before .before .down-state .ensures) at (e .encode .ensures))
+    rw (k .cut .ensures .0)
+    (cut-ends pagesPerFile (s .args .file) (s .args .budget) (device s) (w .sync-writes .result) _ (w .sync-writes .ensures) (all t) _ (omega arith)
+    (sound-length pagesPerFile (s .args .sizes .now) (s .args .state .now) (ready t .sound)) (k .cut .ensures .1))
 
 sync-state-requires : tie.Need-sync-state-requires
 sync-state-requires c κs = encoded-is (c .before .before .before .before .before .before .before .before .before .before .before)
@@ -128,8 +126,7 @@ sync-spec =
     enum-known-admission
     enum-told
     sync-writes-requires
-    down-state-requires
-    encode-requires
+    cut-requires
     same-length
     same-length-2
     same-length-3

@@ -12,23 +12,14 @@ floor-at-requires c κs = search needs
 cast-floor : tie.Need-cast-floor
 cast-floor c = search needs
 
-filled-page-requires : tie.Need-filled-page-requires
-filled-page-requires c κs = search needs
+fill-frame-requires : tie.Need-fill-frame-requires
+fill-frame-requires c κs = search needs
 
-mul-patch-frames : tie.Need-mul-patch-frames
-mul-patch-frames c = search needs
+cast-t16 : tie.Need-cast-t16
+cast-t16 c = search needs
 
-slice-aggregate-patch-frames : tie.Need-slice-aggregate-patch-frames
-slice-aggregate-patch-frames c = search needs
-
-patch-frames-requires : tie.Need-patch-frames-requires
-patch-frames-requires c κs = search needs
-
-cast-t21 : tie.Need-cast-t21
-cast-t21 c = search needs
-
-cast-t22 : tie.Need-cast-t22
-cast-t22 c = search needs
+cast-t17 : tie.Need-cast-t17
+cast-t17 c = search needs
 
 set-slot-requires : tie.Need-set-slot-requires
 set-slot-requires c κs = search needs
@@ -42,9 +33,9 @@ same-length-2 c = search needs
 returns : tie.Need-returns
 unfolding cachePage filledPage
 returns c =
-    let s = c .before .before .before .before .before .before .before .before .before .before .before .before .before .before .before in
+    let s = c .before .before .before .before .before .before .before .before .before .before .before .before .before in
     let x = slot-changed (s .args .state .now) (s .pre .7) _ _ _ (c .before .before .set-slot .ensures) in
-    (λ stored. rw (x .0, c .before .before .before .before .before .before .patch-frames .ensures, c .before .before .before .before .before .before .before .before .before .filled-page .ensures, c .before .before .before .before .before .before .before .before .before .before .floor-at .ensures, ← (s .pre .6)), x .1)
+    (λ stored. rw (x .0, c .before .before .before .before .before .before .fill-frame .ensures, c .before .before .before .before .before .before .before .before .floor-at .ensures, ← (s .pre .6)), x .1)
 
 pub cache-page-spec : {M : Type 1} → statement M
 cache-page-spec =
@@ -52,12 +43,9 @@ cache-page-spec =
     (tie.spec
     floor-at-requires
     cast-floor
-    filled-page-requires
-    mul-patch-frames
-    slice-aggregate-patch-frames
-    patch-frames-requires
-    cast-t21
-    cast-t22
+    fill-frame-requires
+    cast-t16
+    cast-t17
     set-slot-requires
     same-length
     same-length-2
