@@ -19,7 +19,9 @@ missing=()
 there lmdb.h lmdb || missing+=(liblmdb-dev)
 there sqlite3.h sqlite3 || missing+=(libsqlite3-dev)
 if [ ${#missing[@]} -ne 0 ]; then
-    DEBIAN_FRONTEND=noninteractive apt-get install -y -q "${missing[@]}" >/dev/null 2>&1 ||
+    export DEBIAN_FRONTEND=noninteractive
+    # a new machine has no list of packages, or an old one
+    { apt-get update -q; apt-get install -y -q "${missing[@]}"; } >/dev/null 2>&1 ||
         echo "run.sh: apt-get does not install ${missing[*]}; the benchmark goes without" >&2
 fi
 
