@@ -191,12 +191,12 @@ fn sizes_fit(sizes: &[u32], greatest: usize) -> bool
     all
 }
 
-// SHAPE of the media: the refusals of a format.
-pub fn admit_format(media: &[u8], sizes: &[u32]) -> Answer
-    ensures { λ r. ⌜ coded r ≡ firstRefusal (mediaShape pagesPerFile (mediaOf (now (media .entry)) (now (sizes .entry)))) (done 0) ⌝ }
+// SHAPE of the media, which has so many bytes: the refusals of a format.
+pub fn admit_format(media: usize, sizes: &[u32]) -> Answer
+    ensures { λ r. ⌜ ((m : List ℕ) → length m ≡ media → coded r ≡ firstRefusal (mediaShape pagesPerFile (mediaOf m (now (sizes .entry)))) (done 0)) ⌝ }
 {
     let file_len = media::PAGE_BYTES * media::PAGES_PER_FILE;
-    if media.len() != media::FILES * file_len {
+    if media != media::FILES * file_len {
         return Answer::Refused(Refusal::Shape);
     }
     if sizes.len() != media::FILES {
@@ -206,8 +206,8 @@ pub fn admit_format(media: &[u8], sizes: &[u32]) -> Answer
 }
 
 // SHAPE of the media, then MEDIA: the refusals of a mount.
-pub fn admit_mount(media: &[u8], sizes: &[u32]) -> Answer
-    ensures { λ r. ⌜ coded r ≡ firstRefusal (mountTests pagesPerFile (mediaOf (now (media .entry)) (now (sizes .entry)))) (done 0) ⌝ }
+pub fn admit_mount(media: usize, sizes: &[u32]) -> Answer
+    ensures { λ r. ⌜ ((m : List ℕ) → length m ≡ media → coded r ≡ firstRefusal (mountTests pagesPerFile (mediaOf m (now (sizes .entry)))) (done 0)) ⌝ }
 {
     let shape = admit_format(media, sizes);
     match shape {
@@ -222,10 +222,11 @@ pub fn admit_mount(media: &[u8], sizes: &[u32]) -> Answer
 }
 
 // SHAPE of the media and of the page frames, then MEDIA: the first tests of the calls on a file.
-fn admit_device(media: &[u8], sizes: &[u32], frames: &[u8]) -> Answer
-    ensures { λ r. ⌜ coded r ≡ firstRefusal (deviceTests pagesPerFile (mediaOf (now (media .entry)) (now (sizes .entry))) (now (frames .entry))) (done 0) ⌝ }
+fn admit_device(media: usize, sizes: &[u32], frames: usize) -> Answer
+    ensures { λ r. ⌜ ((m f : List ℕ) → length m ≡ media → length f ≡ frames
+        → coded r ≡ firstRefusal (deviceTests pagesPerFile (mediaOf m (now (sizes .entry))) f) (done 0)) ⌝ }
 {
-    if frames.len() != device::SLOTS * media::PAGE_BYTES {
+    if frames != device::SLOTS * media::PAGE_BYTES {
         return Answer::Refused(Refusal::Shape);
     }
     admit_mount(media, sizes)
@@ -417,17 +418,19 @@ pub fn slot_of(slots: &[u8; TABLE], file: usize, page: usize) -> usize
     device::SLOTS
 }
 
-// The refusals of the calls on a file, in their order. Where none applies, the table has the slot of each page.
+// The refusals of the calls on a file, in their order. Of the media and the page frames only the lengths are looked at. Where no
+// refusal applies, the table has the slot of each page.
 pub fn admit(
-    media: &[u8],
+    media: usize,
     sizes: &[u32],
-    frames: &[u8],
+    frames: usize,
     state: &[u8],
     file: usize,
     range: bool,
     slots: &mut [u8; TABLE],
 ) -> Answer
-    ensures { λ r. ⌜ (coded r ≡ firstRefusal (fileTests pagesPerFile (deviceOf (mediaOf (now (media .entry)) (now (sizes .entry))) (now (frames .entry)) (decode (now (state .entry)))) file range) (done 0))
+    ensures { λ r. ⌜ ((m f : List ℕ) → length m ≡ media → length f ≡ frames
+        → coded r ≡ firstRefusal (fileTests pagesPerFile (deviceOf (mediaOf m (now (sizes .entry))) f (decode (now (state .entry)))) file range) (done 0))
         × (now (slots .exit) ≡ tableAfter (coded r) ((decode (now (state .entry))) .slots))
         × ((coded r) .number ≡ 0 → IsEncoded (now (state .entry))) ⌝ }
 {

@@ -39,9 +39,9 @@ fn admit_at(
 {
     let greatest = PAGE_BYTES * PAGES_PER_FILE;
     cache_state::admit(
-        media,
+        media.len(),
         sizes,
-        frames,
+        frames.len(),
         state,
         file,
         position <= greatest,

@@ -201,7 +201,15 @@ pub fn sync(
         ≡ onState (sync pagesPerFile file budget) (lent (mediaOf (now (media .entry)) (now (sizes .entry))) (now (frames .entry)) (now (state .entry))) ⌝ }
 {
     let mut slots = [0u8; cache_state::TABLE];
-    let admission = cache_state::admit(media, sizes, frames, state, file, true, &mut slots);
+    let admission = cache_state::admit(
+        media.len(),
+        sizes,
+        frames.len(),
+        state,
+        file,
+        true,
+        &mut slots,
+    );
     match admission {
         Answer::Refused(refusal) => Answer::Refused(refusal),
         Answer::Done(_) => {
@@ -326,7 +334,7 @@ pub fn mount(media: &mut [u8], sizes: &mut [u32], state: &mut [u8], budget: usiz
     if state.len() != state_bytes::STATE_BYTES {
         return Answer::Refused(Refusal::Shape);
     }
-    let admission = cache_state::admit_mount(media, sizes);
+    let admission = cache_state::admit_mount(media.len(), sizes);
     match admission {
         Answer::Refused(refusal) => Answer::Refused(refusal),
         Answer::Done(_) => {
@@ -373,7 +381,7 @@ pub fn format(media: &mut [u8], sizes: &mut [u32], state: &mut [u8], budget: usi
     if state.len() != state_bytes::STATE_BYTES {
         return Answer::Refused(Refusal::Shape);
     }
-    let admission = cache_state::admit_format(media, sizes);
+    let admission = cache_state::admit_format(media.len(), sizes);
     match admission {
         Answer::Refused(refusal) => Answer::Refused(refusal),
         Answer::Done(_) => {

@@ -202,7 +202,15 @@ pub fn write(
 {
     let in_range = sum_fits(position, bytes.len(), PAGE_BYTES * PAGES_PER_FILE);
     let mut slots = [0u8; TABLE];
-    let admission = cache_state::admit(media, sizes, frames, state, file, in_range, &mut slots);
+    let admission = cache_state::admit(
+        media.len(),
+        sizes,
+        frames.len(),
+        state,
+        file,
+        in_range,
+        &mut slots,
+    );
     match admission {
         Answer::Refused(refusal) => Answer::Refused(refusal),
         Answer::Done(_) => {
@@ -295,9 +303,9 @@ pub fn truncate(
     let greatest = PAGE_BYTES * PAGES_PER_FILE;
     let mut slots = [0u8; TABLE];
     let admission = cache_state::admit(
-        media,
+        media.len(),
         sizes,
-        frames,
+        frames.len(),
         state,
         file,
         n <= greatest,

@@ -1,6 +1,7 @@
 -- `cache_state::admit` meets its contract: a refusal of `admit_device` stands; or else `admit_state` decides.
 use mathlib.Core.Path.{refl, _∙_}
 use mathlib.Core.List.{List}
+use Prim.Native.Nat.{ℕ}
 use borrow.Author.Needs.{needs}
 use Rattle.answer.specs.Admission.{Test}
 use Rattle.answer.proofs.Admission.{then-refused, then-rest}
@@ -13,11 +14,11 @@ use Rattle.cache_state.proofs.admit.Statement.{statement}
 use Rattle.cache_state.proofs.admit.Tie as tie
 
 -- the tests of `admit_device`, and those after them
-abbrev first : tie.After-admit-device → List Test
-first c = let a = c .before .before .before .before .before .args in deviceTests pagesPerFile (mediaOf (a .media .now) (a .sizes .now)) (a .frames .now)
+abbrev first : tie.After-admit-device → List ℕ → List ℕ → List Test
+first c media frames = deviceTests pagesPerFile (mediaOf media (c .before .before .before .args .sizes .now)) frames
 
 abbrev rest : tie.After-admit-device → List Test
-rest c = let a = c .before .before .before .before .before .args in stateTests pagesPerFile (a .sizes .now) (decode (a .state .now)) (a .file) (a .range)
+rest c = let a = c .before .before .before .args in stateTests pagesPerFile (a .sizes .now) (decode (a .state .now)) (a .file) (a .range)
 
 admit-device-requires : tie.Need-admit-device-requires
 admit-device-requires c κs = search needs
@@ -37,9 +38,9 @@ admit-state-requires c κs = search needs
 returns : tie.Need-returns
 returns c =
     let b = c .before .before .before .before in (
-      then-refused (first b) (rest b) _ (b .admit-device .ensures) _ (c .before .before .admission .given .1),
-      c .none-cached .ensures ∙ table-refused (c .before .before .admission .given .0 .0) (decode (b .before .before .before .before .before .args .state .now) .slots),
-      λ q. absurd (refused-not-done (c .before .before .admission .given .0 .0) (decode (b .before .before .before .before .before .args .state .now) .slots) q),
+      λ media frames e q. then-refused (first b media frames) (rest b) _ (b .admit-device .ensures media frames e q) _ (c .before .before .admission .given .1),
+      c .none-cached .ensures ∙ table-refused (c .before .before .admission .given .0 .0) (decode (b .before .before .before .args .state .now) .slots),
+      λ q. absurd (refused-not-done (c .before .before .admission .given .0 .0) (decode (b .before .before .before .args .state .now) .slots) q),
     )
 
 returns-2 : tie.Need-returns-2
@@ -48,7 +49,7 @@ returns-2 c =
     let s = c .before in
     let b = s .before .before .before in
     let e = c .admit-state .ensures in
-    (e .0 ∙ then-rest (first b) (rest b) _ (b .admit-device .ensures) refl _ (s .before .enum-told .given .1), e .1, e .2)
+    (λ media frames p q. e .0 ∙ then-rest (first b media frames) (rest b) _ (b .admit-device .ensures media frames p q) refl _ (s .before .enum-told .given .1), e .1, e .2)
 
 pub admit-spec : {M : Type 1} → statement M
 admit-spec =

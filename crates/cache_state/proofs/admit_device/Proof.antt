@@ -1,5 +1,5 @@
 -- `cache_state::admit_device` meets its contract: all wrong lengths are SHAPE, so their order makes no difference.
-use mathlib.Core.Path.{_∙_}
+use mathlib.Core.Path.{sym, _∙_}
 use borrow.Author.Needs.{needs}
 use Rattle.device.proofs.Admission.{frames-refused, frames-passed}
 use Rattle.cache_state.proofs.admit_device.Statement.{statement}
@@ -9,13 +9,13 @@ mul-if1 : tie.Need-mul-if1
 mul-if1 c = search needs
 
 returns : tie.Need-returns
-returns c = frames-refused _ _ _ (c .if1 .taken)
+returns c = λ media frames e q. frames-refused _ _ frames (λ z. c .if1 .taken (sym q ∙ z))
 
 admit-mount-requires : tie.Need-admit-mount-requires
 admit-mount-requires c κs = search needs
 
 returns-2 : tie.Need-returns-2
-returns-2 c = c .admit-mount .ensures ∙ frames-passed _ _ _ (c .before .if1 .left)
+returns-2 c = λ media frames e q. c .admit-mount .ensures media e ∙ frames-passed _ _ frames (q ∙ c .before .if1 .left)
 
 pub admit-device-spec : {M : Type 1} → statement M
 admit-device-spec = tie.close (tie.spec mul-if1 returns admit-mount-requires returns-2)

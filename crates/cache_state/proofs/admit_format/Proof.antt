@@ -15,15 +15,15 @@ mul-if1 c = search needs
 
 returns : tie.Need-returns
 unfolding mediaShape
-returns c = rw (ne-eqb (length (c .before .args .media .now)) (mediaBytes pagesPerFile) (c .if1 .taken))
+returns c = λ media e. rw (e, ne-eqb (c .before .args .media) (mediaBytes pagesPerFile) (c .if1 .taken))
 
 returns-2 : tie.Need-returns-2
 unfolding mediaShape
-returns-2 c = rw (eq-eqb _ _ (c .before .if1 .left), ne-eqb (length (c .before .before .args .sizes .now)) files (c .if2 .taken))
+returns-2 c = λ media e. rw (e, eq-eqb _ _ (c .before .if1 .left), ne-eqb (length (c .before .before .args .sizes .now)) files (c .if2 .taken))
 
 returns-3 : tie.Need-returns-3
 unfolding mediaShape
-returns-3 c = rw (eq-eqb _ _ (c .before .if1 .left), eq-eqb _ _ (c .if2 .left))
+returns-3 c = λ media e. rw (e, eq-eqb _ _ (c .before .if1 .left), eq-eqb _ _ (c .if2 .left))
 
 pub admit-format-spec : {M : Type 1} → statement M
 admit-format-spec = tie.close (tie.spec mul-file-len mul-if1 returns returns-2 returns-3)

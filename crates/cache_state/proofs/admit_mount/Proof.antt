@@ -1,5 +1,7 @@
 -- `cache_state::admit_mount` meets its contract: a refusal of `admit_format` stands; or else MEDIA is tested.
 use mathlib.Core.Path.{refl, sym, _∙_}
+use mathlib.Core.List.{List}
+use Prim.Native.Nat.{ℕ}
 use borrow.Author.Needs.{needs}
 use Rattle.answer.proofs.Admission.{then-refused, then-rest}
 use Rattle.media.specs.Geometry.{pagesPerFile}
@@ -9,8 +11,8 @@ use Rattle.device.proofs.Admission.{fit-done, fit-refused}
 use Rattle.cache_state.proofs.admit_mount.Statement.{statement}
 use Rattle.cache_state.proofs.admit_mount.Tie as tie
 
-abbrev m : tie.After-admit-format → Media
-m c = let a = c .before .before .before .args in mediaOf (a .media .now) (a .sizes .now)
+abbrev m : tie.After-admit-format → List ℕ → Media
+m c media = mediaOf media (c .before .before .args .sizes .now)
 
 admit-format-requires : tie.Need-admit-format-requires
 admit-format-requires c κs = search needs
@@ -32,19 +34,19 @@ unfolding mediaShape
 returns c =
     let s = c .before in
     let b = s .before .before .before in
-    fit-done pagesPerFile (m b) (sym (s .sizes-fit .ensures) ∙ c .if1 .taken) ∙ then-rest (mediaShape pagesPerFile (m b)) (sizesFit pagesPerFile (m b)) _ (b .admit-format .ensures) refl _ (s .before .enum-told .given .1)
+    λ media e. fit-done pagesPerFile (m b media) (sym (s .sizes-fit .ensures) ∙ c .if1 .taken) ∙ then-rest (mediaShape pagesPerFile (m b media)) (sizesFit pagesPerFile (m b media)) _ (b .admit-format .ensures media e) refl _ (s .before .enum-told .given .1)
 
 returns-2 : tie.Need-returns-2
 returns-2 c =
     let b = c .before .before .before in
-    then-refused (mediaShape pagesPerFile (m b)) (sizesFit pagesPerFile (m b)) _ (b .admit-format .ensures) _ (c .before .shape .given .1)
+    λ media e. then-refused (mediaShape pagesPerFile (m b media)) (sizesFit pagesPerFile (m b media)) _ (b .admit-format .ensures media e) _ (c .before .shape .given .1)
 
 returns-3 : tie.Need-returns-3
 unfolding mediaShape
 returns-3 c =
     let s = c .before in
     let b = s .before .before .before in
-    fit-refused pagesPerFile (m b) (sym (s .sizes-fit .ensures) ∙ c .if1 .left) ∙ then-rest (mediaShape pagesPerFile (m b)) (sizesFit pagesPerFile (m b)) _ (b .admit-format .ensures) refl _ (s .before .enum-told .given .1)
+    λ media e. fit-refused pagesPerFile (m b media) (sym (s .sizes-fit .ensures) ∙ c .if1 .left) ∙ then-rest (mediaShape pagesPerFile (m b media)) (sizesFit pagesPerFile (m b media)) _ (b .admit-format .ensures media e) refl _ (s .before .enum-told .given .1)
 
 pub admit-mount-spec : {M : Type 1} → statement M
 admit-mount-spec =

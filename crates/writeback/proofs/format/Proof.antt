@@ -28,11 +28,11 @@ abbrev came : tie.Start → List ℕ → Lent
 came s frames = lent (media-of s) frames (s .args .state .now)
 
 abbrev start : tie.After-enum-told → tie.Start
-start c = c .before .before .before .before .before .before .before .before .before
+start c = c .before .before .before .before .before .before .before .before
 
 -- what `admit_format` has tested
 all : (c : tie.After-enum-told) → passed (mediaShape pagesPerFile (media-of (start c))) ≡ true
-all c = shape-passed pagesPerFile (media-of (start c)) (c .before .before .admit-format .result) (c .before .before .admit-format .ensures) _ (c .enum-told .given .1)
+all c = shape-passed pagesPerFile (media-of (start c)) (c .before .before .admit-format .result) (c .before .before .admit-format .ensures _ refl) _ (c .enum-told .given .1)
 
 returns : tie.Need-returns
 returns c =
@@ -60,27 +60,24 @@ finish-requires c κs = search needs
 same-length : tie.Need-same-length
 same-length c = search needs
 
-same-length-2 : tie.Need-same-length-2
-same-length-2 c = search needs
-
 returns-2 : tie.Need-returns-2
 unfolding format
 returns-2 c =
     let b = c .before .before .before in
-    let s = b .before .before .before .before .before .before .before in
+    let s = b .before .before .before .before .before .before in
     let x = c .before .admission .given .0 .0 in
     λ frames. refused-call (format pagesPerFile (s .args .budget)) (came s frames) (mediaShape pagesPerFile (media-of s)) _ refl (shape-changeless pagesPerFile (deviceIn (came s frames))) x
-    (coded-of (b .admit-format .result) (Refused x) _ (c .before .admission .given .1) (b .admit-format .ensures))
+    (coded-of (b .admit-format .result) (Refused x) _ (c .before .admission .given .1) (b .admit-format .ensures _ refl))
     ∙ length-on (format pagesPerFile (s .args .budget)) (came s frames) (omega arith)
+
+same-length-2 : tie.Need-same-length-2
+same-length-2 c = search needs
 
 same-length-3 : tie.Need-same-length-3
 same-length-3 c = search needs
 
 same-length-4 : tie.Need-same-length-4
 same-length-4 c = search needs
-
-same-length-5 : tie.Need-same-length-5
-same-length-5 c = search needs
 
 returns-3 : tie.Need-returns-3
 unfolding format
@@ -108,9 +105,8 @@ format-spec =
     down-state-requires
     finish-requires
     same-length
-    same-length-2
     returns-2
+    same-length-2
     same-length-3
     same-length-4
-    same-length-5
     returns-3)

@@ -28,11 +28,11 @@ abbrev came : tie.Start → List ℕ → Lent
 came s frames = lent (media-of s) frames (s .args .state .now)
 
 abbrev start : tie.After-enum-told → tie.Start
-start c = c .before .before .before .before .before .before .before .before .before
+start c = c .before .before .before .before .before .before .before .before
 
 -- what `admit_mount` has tested
 all : (c : tie.After-enum-told) → passed (mountTests pagesPerFile (media-of (start c))) ≡ true
-all c = mount-passed pagesPerFile (media-of (start c)) (c .before .before .admit-mount .result) (c .before .before .admit-mount .ensures) _ (c .enum-told .given .1)
+all c = mount-passed pagesPerFile (media-of (start c)) (c .before .before .admit-mount .result) (c .before .before .admit-mount .ensures _ refl) _ (c .enum-told .given .1)
 
 ready : (c : tie.After-enum-told) → Mountable pagesPerFile (deviceIn (came (start c) []))
 ready c = mount-admitted pagesPerFile (deviceIn (came (start c) [])) (all c)
@@ -66,27 +66,24 @@ finish-requires c κs = search needs
 same-length : tie.Need-same-length
 same-length c = search needs
 
-same-length-2 : tie.Need-same-length-2
-same-length-2 c = search needs
-
 returns-2 : tie.Need-returns-2
 unfolding mount
 returns-2 c =
     let b = c .before .before .before in
-    let s = b .before .before .before .before .before .before .before in
+    let s = b .before .before .before .before .before .before in
     let x = c .before .admission .given .0 .0 in
     λ frames. refused-call (mount pagesPerFile (s .args .budget)) (came s frames) (mountTests pagesPerFile (media-of s)) _ refl (mount-changeless pagesPerFile (deviceIn (came s frames))) x
-    (coded-of (b .admit-mount .result) (Refused x) _ (c .before .admission .given .1) (b .admit-mount .ensures))
+    (coded-of (b .admit-mount .result) (Refused x) _ (c .before .admission .given .1) (b .admit-mount .ensures _ refl))
     ∙ length-on (mount pagesPerFile (s .args .budget)) (came s frames) (omega arith)
+
+same-length-2 : tie.Need-same-length-2
+same-length-2 c = search needs
 
 same-length-3 : tie.Need-same-length-3
 same-length-3 c = search needs
 
 same-length-4 : tie.Need-same-length-4
 same-length-4 c = search needs
-
-same-length-5 : tie.Need-same-length-5
-same-length-5 c = search needs
 
 returns-3 : tie.Need-returns-3
 unfolding mount
@@ -116,9 +113,8 @@ mount-spec =
     mounted-state-requires
     finish-requires
     same-length
-    same-length-2
     returns-2
+    same-length-2
     same-length-3
     same-length-4
-    same-length-5
     returns-3)

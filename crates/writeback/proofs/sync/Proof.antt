@@ -1,5 +1,5 @@
 -- `writeback::sync` meets its contract: the admission decides, then the budget.
-use mathlib.Core.Path.{_≡_, sym, _∙_}
+use mathlib.Core.Path.{_≡_, refl, sym, _∙_}
 use mathlib.Core.Bool.{true}
 use native.Mathlib.Omega.{arith}
 use borrow.Author.Needs.{needs}
@@ -21,11 +21,11 @@ abbrev device : tie.Start → Lent
 device s = lent (mediaOf (s .args .media .now) (s .args .sizes .now)) (s .args .frames .now) (s .args .state .now)
 
 abbrev start : tie.After-enum-told → tie.Start
-start c = c .before .before .before .before .before .before .before .before .before .before .before
+start c = c .before .before .before .before .before .before .before .before .before .before
 
 -- what `admit` has tested
 all : (c : tie.After-enum-told) → passed (fileTests pagesPerFile (deviceIn (device (start c))) (start c .args .file) true) ≡ true
-all c = file-passed pagesPerFile (deviceIn (device (start c))) _ true (c .before .before .admit .result) (c .before .before .admit .ensures .0) _ (c .enum-told .given .1)
+all c = file-passed pagesPerFile (deviceIn (device (start c))) _ true (c .before .before .admit .result) (c .before .before .admit .ensures .0 _ _ refl refl) _ (c .enum-told .given .1)
 
 ready : (c : tie.After-enum-told) → Admitted pagesPerFile (deviceIn (device (start c))) (start c .args .file) true
 ready c = file-admitted pagesPerFile (deviceIn (device (start c))) _ true (all c)
@@ -90,25 +90,22 @@ same-length-4 c = search needs
 same-length-5 : tie.Need-same-length-5
 same-length-5 c = search needs
 
-same-length-6 : tie.Need-same-length-6
-same-length-6 c = search needs
-
 returns-2 : tie.Need-returns-2
 returns-2 c =
     let b = c .before .before .before in
-    let s = b .before .before .before .before .before .before .before .before .before in
+    let s = b .before .before .before .before .before .before .before .before in
     let x = c .before .admission .given .0 .0 in
     refused-ends pagesPerFile (s .args .file) (s .args .budget) (device s) x
-    (file-refused pagesPerFile (deviceIn (device s)) (s .args .file) true (b .admit .result) (b .admit .ensures .0) x (c .before .admission .given .1))
+    (file-refused pagesPerFile (deviceIn (device s)) (s .args .file) true (b .admit .result) (b .admit .ensures .0 _ _ refl refl) x (c .before .admission .given .1))
+
+same-length-6 : tie.Need-same-length-6
+same-length-6 c = search needs
 
 same-length-7 : tie.Need-same-length-7
 same-length-7 c = search needs
 
 same-length-8 : tie.Need-same-length-8
 same-length-8 c = search needs
-
-same-length-9 : tie.Need-same-length-9
-same-length-9 c = search needs
 
 returns-3 : tie.Need-returns-3
 returns-3 c =
@@ -134,9 +131,8 @@ sync-spec =
     sync-state-requires
     same-length-4
     same-length-5
-    same-length-6
     returns-2
+    same-length-6
     same-length-7
     same-length-8
-    same-length-9
     returns-3)

@@ -1,5 +1,5 @@
 -- `writing::truncate` meets its contract: refused as `admit` says, or the state and the tail.
-use mathlib.Core.Path.{_≡_, sym, _∙_, ap}
+use mathlib.Core.Path.{_≡_, refl, sym, _∙_, ap}
 use mathlib.Core.Bool.{Bool}
 use Prim.Native.Nat.{_≤_, _/_}
 use native.Mathlib.Omega.{arith}
@@ -40,17 +40,17 @@ abbrev call : tie.Start → Device → Result Device
 call c = truncate pagesPerFile (c .args .file) (c .args .n)
 
 -- what `admit` has tested
-ready : (c : tie.After-enum-told) → let s = c .before .before .before .before .before .before .before .before .before .before in Admitted pagesPerFile (device s) (s .args .file) (range s)
-ready c = let s = c .before .before .before .before .before .before .before .before .before .before in file-ready pagesPerFile (device s) _ (range s) (c .before .before .admit .result) (c .before .before .admit .ensures .0) _ (c .enum-told .given .1)
+ready : (c : tie.After-enum-told) → let s = c .before .before .before .before .before .before .before .before .before in Admitted pagesPerFile (device s) (s .args .file) (range s)
+ready c = let s = c .before .before .before .before .before .before .before .before .before in file-ready pagesPerFile (device s) _ (range s) (c .before .before .admit .result) (c .before .before .admit .ensures .0 _ _ refl refl) _ (c .enum-told .given .1)
 
-in-limits : (c : tie.After-enum-told) → c .before .before .before .before .before .before .before .before .before .before .args .n ≤ fileBytes pagesPerFile
+in-limits : (c : tie.After-enum-told) → c .before .before .before .before .before .before .before .before .before .args .n ≤ fileBytes pagesPerFile
 in-limits c = leb-true _ _ (ready c .in-range)
 
 -- the bytes of the state are those of a state
-encoded : (c : tie.After-enum-told) → IsEncoded (c .before .before .before .before .before .before .before .before .before .before .args .state .now)
+encoded : (c : tie.After-enum-told) → IsEncoded (c .before .before .before .before .before .before .before .before .before .args .state .now)
 encoded c = c .before .before .admit .ensures .2 (ap (λ (a : Answer). coded a .number) (c .enum-told .given .1))
 
-table : (c : tie.After-enum-told) → c .before .before .admit .last .1 .1 .1 .1 .1 .1 .0 ≡ slotTable pagesPerFile (decode (c .before .before .before .before .before .before .before .before .before .before .args .state .now) .slots)
+table : (c : tie.After-enum-told) → c .before .before .admit .last .1 .1 .1 .1 .1 .1 .0 ≡ slotTable pagesPerFile (decode (c .before .before .before .before .before .before .before .before .before .args .state .now) .slots)
 table c = table-is _ _ _ _ (c .enum-told .given .1) (c .before .before .admit .ensures .1)
 
 mul-greatest : tie.Need-mul-greatest
@@ -77,35 +77,32 @@ clear-tail-requires c κs = ready (c .before .before .before .before .before .be
 same-length : tie.Need-same-length
 same-length c = search needs
 
-same-length-2 : tie.Need-same-length-2
-same-length-2 c = search needs
-
 returns : tie.Need-returns
 returns c =
     let b = c .before .before .before in
-    let s = c .before .before .before .before .before .before .before .before .before .before .before in
+    let s = c .before .before .before .before .before .before .before .before .before .before in
     let x = c .before .admission .given .0 .0 in
-    let r = file-refused pagesPerFile (device s) (s .args .file) (range s) (b .admit .result) (b .admit .ensures .0) x (c .before .admission .given .1) in
+    let r = file-refused pagesPerFile (device s) (s .args .file) (range s) (b .admit .result) (b .admit .ensures .0 _ _ refl refl) x (c .before .admission .given .1) in
     kept-on (call s) (came s) _ (refused-leaves pagesPerFile (s .args .file) (range s) (device s) x r)
     (truncate-refused pagesPerFile (s .args .file) (s .args .n) (device s) x r)
 
+same-length-2 : tie.Need-same-length-2
+same-length-2 c = search needs
+
 same-length-3 : tie.Need-same-length-3
 same-length-3 c = search needs
-
-same-length-4 : tie.Need-same-length-4
-same-length-4 c = search needs
 
 returns-2 : tie.Need-returns-2
 unfolding withSizes
 returns-2 c =
     let t = c .before .before .before .before .before .before .before .before .before .before in
-    let s = c .before .before .before .before .before .before .before .before .before .before .before .before .before .before .before .before .before .before .before .before in
+    let s = c .before .before .before .before .before .before .before .before .before .before .before .before .before .before .before .before .before .before .before in
     let a = s .args in
     let u = c .before .before .before .before .before .before .before .before .truncate-state .ensures in
     let k = c .before .before .before .tail-slot .ensures (decode (a .state .now)) (shaped (a .state .now) .slots) (table t) in
     encoded-on (call s) (came s) _ (λ d. truncate-kept pagesPerFile d _ _) (encoded t) _ _ _ (u .1)
     (truncate-done pagesPerFile (a .file) (a .n) (device s) _ _
-    (file-passed pagesPerFile (device s) _ _ (t .before .before .admit .result) (t .before .before .admit .ensures .0) _ (t .enum-told .given .1))
+    (file-passed pagesPerFile (device s) _ _ (t .before .before .admit .result) (t .before .before .admit .ensures .0 _ _ refl refl) _ (t .enum-told .given .1))
     (u .0) (c .before .before .clear-tail .ensures (a .media .now) (a .sizes .now) _ (a .file) (k ∙ sym (ap (λ (x : CacheState). firstIndex (holds (a .file) (a .n / pageBytes)) (x .slots)) (u .0)))))
 
 pub truncate-spec : {M : Type 1} → statement M
@@ -120,8 +117,7 @@ truncate-spec =
     tail-slot-requires
     clear-tail-requires
     same-length
-    same-length-2
     returns
+    same-length-2
     same-length-3
-    same-length-4
     returns-2)

@@ -1,5 +1,5 @@
 -- `writing::write` meets its contract: refused, empty, without room, or put down page by page.
-use mathlib.Core.Path.{_≡_, sym, _∙_, ap}
+use mathlib.Core.Path.{_≡_, refl, sym, _∙_, ap}
 use mathlib.Core.Bool.{Bool, true}
 use Prim.Native.Nat.{_+_, _≤_}
 use native.Mathlib.Omega.{arith}
@@ -39,39 +39,39 @@ range c = leb (c .args .position + length (c .args .bytes .now)) (fileBytes page
 abbrev call : tie.Start → Device → Result Device
 call c = write pagesPerFile (c .args .file) (c .args .position) (c .args .bytes .now)
 
-told : (c : tie.After-admit) → let s = c .before .before .before .before .before .before .before .before .before .before in
+told : (c : tie.After-admit) → let s = c .before .before .before .before .before .before .before .before .before in
     coded (c .admit .result) ≡ firstRefusal (fileTests pagesPerFile (device s) (s .args .file) (range s)) (done 0)
 told c =
-    let s = c .before .before .before .before .before .before .before .before .before .before in
-    c .admit .ensures .0 ∙ ap (λ (b : Bool). firstRefusal (fileTests pagesPerFile (device s) (s .args .file) b) (done 0)) (c .before .before .before .before .sum-fits .ensures)
+    let s = c .before .before .before .before .before .before .before .before .before in
+    c .admit .ensures .0 _ _ refl refl ∙ ap (λ (b : Bool). firstRefusal (fileTests pagesPerFile (device s) (s .args .file) b) (done 0)) (c .before .before .before .sum-fits .ensures)
 
 -- what `admit` has tested
-ready : (c : tie.After-enum-told) → let s = c .before .before .before .before .before .before .before .before .before .before .before .before in Admitted pagesPerFile (device s) (s .args .file) (range s)
-ready c = let s = c .before .before .before .before .before .before .before .before .before .before .before .before in file-ready pagesPerFile (device s) _ (range s) (c .before .before .admit .result) (told (c .before .before)) _ (c .enum-told .given .1)
+ready : (c : tie.After-enum-told) → let s = c .before .before .before .before .before .before .before .before .before .before .before in Admitted pagesPerFile (device s) (s .args .file) (range s)
+ready c = let s = c .before .before .before .before .before .before .before .before .before .before .before in file-ready pagesPerFile (device s) _ (range s) (c .before .before .admit .result) (told (c .before .before)) _ (c .enum-told .given .1)
 
-all : (c : tie.After-enum-told) → let s = c .before .before .before .before .before .before .before .before .before .before .before .before in passed (fileTests pagesPerFile (device s) (s .args .file) (range s)) ≡ true
-all c = let s = c .before .before .before .before .before .before .before .before .before .before .before .before in file-passed pagesPerFile (device s) _ (range s) (c .before .before .admit .result) (told (c .before .before)) _ (c .enum-told .given .1)
+all : (c : tie.After-enum-told) → let s = c .before .before .before .before .before .before .before .before .before .before .before in passed (fileTests pagesPerFile (device s) (s .args .file) (range s)) ≡ true
+all c = let s = c .before .before .before .before .before .before .before .before .before .before .before in file-passed pagesPerFile (device s) _ (range s) (c .before .before .admit .result) (told (c .before .before)) _ (c .enum-told .given .1)
 
-in-limits : (c : tie.After-enum-told) → let s = c .before .before .before .before .before .before .before .before .before .before .before .before in s .args .position + length (s .args .bytes .now) ≤ fileBytes pagesPerFile
+in-limits : (c : tie.After-enum-told) → let s = c .before .before .before .before .before .before .before .before .before .before .before in s .args .position + length (s .args .bytes .now) ≤ fileBytes pagesPerFile
 in-limits c = leb-true _ _ (ready c .in-range)
 
 -- the bytes of the state are those of a state
-encoded : (c : tie.After-enum-told) → IsEncoded (c .before .before .before .before .before .before .before .before .before .before .before .before .args .state .now)
+encoded : (c : tie.After-enum-told) → IsEncoded (c .before .before .before .before .before .before .before .before .before .before .before .args .state .now)
 encoded c = c .before .before .admit .ensures .2 (ap (λ (a : Answer). coded a .number) (c .enum-told .given .1))
 
-table : (c : tie.After-enum-told) → c .before .before .admit .last .1 .1 .1 .1 .1 .1 .0 ≡ slotTable pagesPerFile (decode (c .before .before .before .before .before .before .before .before .before .before .before .before .args .state .now) .slots)
+table : (c : tie.After-enum-told) → c .before .before .admit .last .1 .1 .1 .1 .1 .1 .0 ≡ slotTable pagesPerFile (decode (c .before .before .before .before .before .before .before .before .before .before .before .args .state .now) .slots)
 table c = table-is _ _ _ _ (c .enum-told .given .1) (c .before .before .admit .ensures .1)
 
 -- what the pages took
 abbrev put : tie.After-put-pages → Written
 put c =
-    let a = c .before .before .before .before .before .before .before .before .before .before .before .before .before .before .before .before .before .args in
+    let a = c .before .before .before .before .before .before .before .before .before .before .before .before .before .before .before .before .args in
     record { device = deviceOf (mediaOf (a .media .now) (a .sizes .now)) (c .put-pages .last .1 .0) (decode (c .put-pages .last .1 .1 .0)); count = c .put-pages .result }
 
 -- no more was put down than there was
-most : (c : tie.After-put-pages) → c .put-pages .result ≤ length (c .before .before .before .before .before .before .before .before .before .before .before .before .before .before .before .before .before .args .bytes .now)
+most : (c : tie.After-put-pages) → c .put-pages .result ≤ length (c .before .before .before .before .before .before .before .before .before .before .before .before .before .before .before .before .args .bytes .now)
 most c =
-    let s = c .before .before .before .before .before .before .before .before .before .before .before .before .before .before .before .before .before in
+    let s = c .before .before .before .before .before .before .before .before .before .before .before .before .before .before .before .before in
     let e = ap (λ (w : Written). w .count) (c .put-pages .ensures .0 (s .args .sizes .now)) in
     omega (arith, e, pages-most pagesPerFile (s .args .file) pagesPerFile (s .args .position) (s .args .bytes .now) (device s))
 
@@ -93,13 +93,10 @@ enum-told c = search needs
 same-length : tie.Need-same-length
 same-length c = search needs
 
-same-length-2 : tie.Need-same-length-2
-same-length-2 c = search needs
-
 returns : tie.Need-returns
 returns c =
     let t = c .before in
-    let s = c .before .before .before .before .before .before .before .before .before .before .before .before .before in
+    let s = c .before .before .before .before .before .before .before .before .before .before .before .before in
     encoded-on (call s) (came s) _ (λ d. write-kept pagesPerFile d _ _ _) (encoded t) _ _ _ (encoded t)
     (write-empty pagesPerFile (s .args .file) (s .args .position) (s .args .bytes .now) (device s) (all t) (omega arith))
 
@@ -109,17 +106,17 @@ put-pages-requires c κs =
     let ok = ready t in
     (ok .bytes, ok .frames, ok .file, in-limits t, table t, encoded t)
 
+same-length-2 : tie.Need-same-length-2
+same-length-2 c = search needs
+
 same-length-3 : tie.Need-same-length-3
 same-length-3 c = search needs
-
-same-length-4 : tie.Need-same-length-4
-same-length-4 c = search needs
 
 returns-2 : tie.Need-returns-2
 returns-2 c =
     let p = c .before .before .before .before .before in
     let t = c .before .before .before .before .before .before .before .before .before .before in
-    let s = c .before .before .before .before .before .before .before .before .before .before .before .before .before .before .before .before .before .before .before .before .before .before in
+    let s = c .before .before .before .before .before .before .before .before .before .before .before .before .before .before .before .before .before .before .before .before .before in
     encoded-on (call s) (came s) _ (λ d. write-kept pagesPerFile d _ _ _) (encoded t) _ _ _ (p .put-pages .ensures .1)
     (write-full pagesPerFile (s .args .file) (s .args .position) (s .args .bytes .now) (device s) (all t) (omega arith) (omega arith) (put p) (p .put-pages .ensures .0 (s .args .sizes .now)) (c .if2 .taken))
 
@@ -132,32 +129,29 @@ grow-requires c κs =
     let t = c .before .before .before .before .before .before .before .before .before .before .before in
     (ready t .file, omega (arith, most p, in-limits t), p .put-pages .ensures .1)
 
+same-length-4 : tie.Need-same-length-4
+same-length-4 c = search needs
+
+returns-3 : tie.Need-returns-3
+returns-3 c =
+    let b = c .before .before .before in
+    let s = c .before .before .before .before .before .before .before .before .before .before .before .before in
+    let x = c .before .admission .given .0 .0 in
+    let r = file-refused pagesPerFile (device s) (s .args .file) (range s) (b .admit .result) (told b) x (c .before .admission .given .1) in
+    kept-on (call s) (came s) _ (refused-leaves pagesPerFile (s .args .file) (range s) (device s) x r)
+    (write-refused pagesPerFile (s .args .file) (s .args .position) (s .args .bytes .now) (device s) x r)
+
 same-length-5 : tie.Need-same-length-5
 same-length-5 c = search needs
 
 same-length-6 : tie.Need-same-length-6
 same-length-6 c = search needs
 
-returns-3 : tie.Need-returns-3
-returns-3 c =
-    let b = c .before .before .before in
-    let s = c .before .before .before .before .before .before .before .before .before .before .before .before .before in
-    let x = c .before .admission .given .0 .0 in
-    let r = file-refused pagesPerFile (device s) (s .args .file) (range s) (b .admit .result) (told b) x (c .before .admission .given .1) in
-    kept-on (call s) (came s) _ (refused-leaves pagesPerFile (s .args .file) (range s) (device s) x r)
-    (write-refused pagesPerFile (s .args .file) (s .args .position) (s .args .bytes .now) (device s) x r)
-
-same-length-7 : tie.Need-same-length-7
-same-length-7 c = search needs
-
-same-length-8 : tie.Need-same-length-8
-same-length-8 c = search needs
-
 returns-4 : tie.Need-returns-4
 returns-4 c =
     let p = c .before .before .before .before .before .before .before .before .before in
     let t = c .before .before .before .before .before .before .before .before .before .before .before .before .before .before in
-    let s = c .before .before .before .before .before .before .before .before .before .before .before .before .before .before .before .before .before .before .before .before .before .before .before .before .before .before in
+    let s = c .before .before .before .before .before .before .before .before .before .before .before .before .before .before .before .before .before .before .before .before .before .before .before .before .before in
     let g = c .before .before .grow .ensures in
     encoded-on (call s) (came s) _ (λ d. write-kept pagesPerFile d _ _ _) (encoded t) _ _ _ (g .1)
     (rw (g .0)
@@ -173,17 +167,15 @@ write-spec =
     enum-known-admission
     enum-told
     same-length
-    same-length-2
     returns
     put-pages-requires
+    same-length-2
     same-length-3
-    same-length-4
     returns-2
     add-grow
     grow-requires
+    same-length-4
+    returns-3
     same-length-5
     same-length-6
-    returns-3
-    same-length-7
-    same-length-8
     returns-4)
