@@ -6,7 +6,7 @@ use device::CacheState;
 use device::FileSizes;
 use device::Slot;
 ghost use mathlib.Core.Path.{_≡_};
-ghost use mathlib.Core.Bool.{true, false};
+ghost use mathlib.Core.Bool.{true, false, _&&_};
 ghost use mathlib.Core.List.{List};
 ghost use Prim.Native.Nat.{ℕ, _+_, _*_, _<_, _≤_};
 ghost use lib.ListN.{length, getD};
@@ -134,13 +134,12 @@ fn stored_size(sizes: &[u32], file: usize) -> u32
     0
 }
 
-fn slots_free(cache: CacheState) -> bool
-    ensures { λ r. ⌜ r ≡ every isFree (cache .slots) ⌝ }
+fn slots_free(state: &[u8]) -> bool
+    ensures { λ r. ⌜ r ≡ every isFree ((decode (now (state .entry))) .slots) ⌝ }
 {
-    let slots = cache.slots;
     let mut i = 0;
     while i < device::SLOTS {
-        let s = slots[i];
+        let s = state_bytes::slot_at(state, i);
         if s.used {
             return false;
         }
@@ -149,28 +148,27 @@ fn slots_free(cache: CacheState) -> bool
     true
 }
 
-fn all_zero(sizes: [u32; media::FILES]) -> bool
-    ensures { λ r. ⌜ r ≡ every (λ n. eqb n 0) sizes ⌝ }
+fn sizes_zero(state: &[u8]) -> bool
+    ensures { λ r. ⌜ r ≡ every (λ n. eqb n 0) ((decode (now (state .entry))) .logical) && every (λ n. eqb n 0) ((decode (now (state .entry))) .floor) ⌝ }
 {
-    let mut i = 0;
-    while i < media::FILES {
-        if sizes[i] != 0 {
+    let mut f = 0;
+    while f < media::FILES {
+        if state_bytes::logical_at(state, f) != 0 {
             return false;
         }
-        i += 1;
+        if state_bytes::floor_at(state, f) != 0 {
+            return false;
+        }
+        f += 1;
     }
     true
 }
 
-fn is_down(cache: CacheState) -> bool
-    ensures { λ r. ⌜ r ≡ isDown cache ⌝ }
+fn is_down(state: &[u8]) -> bool
+    ensures { λ r. ⌜ r ≡ isDown (decode (now (state .entry))) ⌝ }
 {
-    let logical = cache.logical;
-    let floor = cache.floor;
-    if slots_free(cache) {
-        if all_zero(logical) {
-            return all_zero(floor);
-        }
+    if slots_free(state) {
+        return sizes_zero(state);
     }
     false
 }
@@ -351,7 +349,7 @@ fn is_sound(sizes: &[u32], state: &[u8], slots: &mut [u8; TABLE]) -> bool
                 return true;
             }
             if mounted == 0 {
-                return is_down(state_bytes::decode(state));
+                return is_down(state);
             }
             return false;
         }

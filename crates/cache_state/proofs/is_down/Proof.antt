@@ -9,33 +9,16 @@ use Rattle.cache_state.proofs.is_down.Tie as tie
 slots-free-requires : tie.Need-slots-free-requires
 slots-free-requires c κs = search needs
 
-all-zero-requires : tie.Need-all-zero-requires
-all-zero-requires c κs = search needs
-
-all-zero-requires-2 : tie.Need-all-zero-requires-2
-all-zero-requires-2 c κs = search needs
+sizes-zero-requires : tie.Need-sizes-zero-requires
+sizes-zero-requires c κs = search needs
 
 returns : tie.Need-returns
 unfolding isDown
-returns c =
-    let l = c .before .before in
-    rw (sym (l .before .before .slots-free .ensures) ∙ l .before .if1 .taken, sym (l .all-zero .ensures) ∙ c .before .if2 .taken, and-true) (c .all-zero2 .ensures)
+returns c = rw (sym (c .before .before .slots-free .ensures) ∙ c .before .if1 .taken, and-true) (c .sizes-zero .ensures)
 
 returns-2 : tie.Need-returns-2
 unfolding isDown
-returns-2 c = search needs
-
-returns-3 : tie.Need-returns-3
-unfolding isDown
-returns-3 c = search needs
+returns-2 c = rw (sym (c .before .slots-free .ensures) ∙ c .if1 .left)
 
 pub is-down-spec : {M : Type 1} → statement M
-is-down-spec =
-    tie.close
-    (tie.spec
-    slots-free-requires
-    all-zero-requires
-    all-zero-requires-2
-    returns
-    returns-2
-    returns-3)
+is-down-spec = tie.close (tie.spec slots-free-requires sizes-zero-requires returns returns-2)

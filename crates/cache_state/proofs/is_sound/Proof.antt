@@ -54,18 +54,15 @@ returns-2 c =
     let a = p .before .before .before .before .before .before .before .before .args in
     (sound-up (a .sizes .now) (a .state .now) (omega arith) (passes p) (orders p) (c .if4 .taken), λ q. leaves p (λ i. omega (arith, c .before .shared-slice-known3 .given i)))
 
-decode-requires : tie.Need-decode-requires
-decode-requires c κs = search needs
-
 is-down-requires : tie.Need-is-down-requires
 is-down-requires c κs = search needs
 
 returns-3 : tie.Need-returns-3
 returns-3 c =
-    let p = c .before .before .before .before .before in
+    let p = c .before .before .before .before in
     let a = p .before .before .before .before .before .before .before .before .args in (
-      (rw (c .before .decode .ensures) at (c .is-down .ensures)) ∙ sound-down (a .sizes .now) (a .state .now) (omega arith) (passes p) (orders p) (c .before .before .if5 .taken),
-      λ q. leaves p (λ i. omega (arith, c .before .before .before .before .shared-slice-known3 .given i)),
+      c .is-down .ensures ∙ sound-down (a .sizes .now) (a .state .now) (omega arith) (passes p) (orders p) (c .before .if5 .taken),
+      λ q. leaves p (λ i. omega (arith, c .before .before .before .shared-slice-known3 .given i)),
     )
 
 returns-4 : tie.Need-returns-4
@@ -93,7 +90,6 @@ is-sound-spec =
     find-slots-requires
     shared-slice-read-mounted
     returns-2
-    decode-requires
     is-down-requires
     returns-3
     returns-4
