@@ -12,10 +12,18 @@
  * media and sizes stand for what survives a loss of power; frames and state do not survive it. After one, make the state down
  * (boxstore_down) and mount. The mount then finds each file as its last completed sync left it, followed by a first part of the
  * bytes of each later write, from none to all, and each later truncate carried out or left out. That presumes of the part behind
- * media and sizes that it takes over each media write whole or not at all, and in order: PAGE (256 bytes of a file), SIZE (one
- * stored size), TRIM (zeros to the end of a file, and its stored size). The calls write these to memory byte by byte; power that goes
- * amid a call then leaves on the part what CUT leaves there at some budget. And nothing else may alter media, sizes, frames or
- * state between the calls.
+ * media and sizes that it does each media write whole or not at all, and in order: PAGE (256 bytes of a file), SIZE (one
+ * stored size), TRIM (zeros to the end of a file, and its stored size). And nothing else may alter media, sizes, frames or state
+ * between the calls.
+ *
+ * The calls change media and sizes as plain memory, in no promised order within a call; a part that is mapped there directly does
+ * not do as presumed. Keep them in RAM, and carry the media writes of a call to the part, in their order. Those of a sync: TRIM to
+ * the floor, if that is below the stored size; PAGE for each used slot of the file, by ascending page; SIZE, if the logical size
+ * differs from the floor. Of a mount: for each file from 0 on with a nonzero byte at or past its stored size, TRIM to that size. Of a
+ * format: for each file from 0 on with a nonzero byte or a nonzero stored size, TRIM to 0. All of it as state and media were before
+ * the call. Power that goes on the way leaves on the part what CUT leaves in media and sizes.
+ *
+ * The budget of sync, mount and format is the number of media writes that can still be paid for, as by a hold-up capacitor.
  *
  * Every call ends on every input: all numbers, lengths and contents are allowed. It writes only to what it is lent without
  * `const`. What the C compiler cannot check is asked of the caller: a pointer is not null (not even beside the length 0), is
@@ -23,7 +31,7 @@
  * Calls on different memory may run at the same time; on the same memory one call must end before the next begins, in an
  * interrupt too.
  *
- * The archive is for x86-64: size_t has 8 bytes. It needs nothing but memcpy and memset. sizes are numbers of the machine; the sizes
+ * The archive is for x86-64: size_t has 8 bytes. It needs nothing but memmove and memset. sizes are numbers of the machine; the sizes
  * inside the state have their low byte first on every machine.
  *
  * The answer is one word, 65,536 * number + count. Number 0 is done, so a done call answers its count, below
@@ -134,7 +142,7 @@ uint32_t boxstore_truncate(const uint8_t *media, size_t media_len, const uint32_
                            size_t file, size_t n);
 
 /* Sync: stores a file: its truncation, its cached pages ascending, its size last. Its slots are free after it. Counts the media
- * writes. The budget is the number of media writes that can still be paid for. */
+ * writes. */
 uint32_t boxstore_sync(uint8_t *media, size_t media_len, uint32_t *sizes, size_t sizes_len,
                        const uint8_t *frames, size_t frames_len, uint8_t *state, size_t state_len,
                        size_t file, size_t budget);

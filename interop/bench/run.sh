@@ -15,10 +15,16 @@ there() {
     printf '#include <%s>\nint main(void) { return 0; }\n' "$1" | cc -x c - -o "$room/probe" "-l$2" 2>/dev/null
 }
 
+# the comparisons and the help need neither
+case " $* " in
+*' --check '* | *' --help '*) wanted= ;;
+*) wanted=yes ;;
+esac
+
 missing=()
 there lmdb.h lmdb || missing+=(liblmdb-dev)
 there sqlite3.h sqlite3 || missing+=(libsqlite3-dev)
-if [ ${#missing[@]} -ne 0 ]; then
+if [ -n "$wanted" ] && [ ${#missing[@]} -ne 0 ]; then
     export DEBIAN_FRONTEND=noninteractive
     # a new machine has no list of packages, or an old one
     { apt-get update -q; apt-get install -y -q "${missing[@]}"; } >/dev/null 2>&1 ||

@@ -1,5 +1,5 @@
 -- A linked caller's calls are the calls on the device.
-use mathlib.Core.Path.{_≡_, ap, _∙_}
+use mathlib.Core.Path.{_≡_, refl, ap, _∙_}
 use mathlib.Core.Logic.{_≢_}
 use mathlib.Core.Bool.{Bool, true, false, cond, _||_}
 use mathlib.Core.List.{List}
@@ -22,18 +22,20 @@ use Rattle.device.specs.Writing.{write}
 use Rattle.device.specs.Truncating.{truncate}
 use Rattle.device.specs.Syncing.{sync}
 use Rattle.device.specs.Mounting.{mount, format}
+use Rattle.device.proofs.Reading.{read-by}
+use Rattle.device.proofs.Looking.{span-within}
 use Rattle.state_bytes.specs.Encoding.{stateBytes, encode}
 use Rattle.state_bytes.specs.Inverse.{Shaped}
-use Rattle.state_bytes.specs.InPlace.{Lent, lent, deviceIn, leavesState, stateAfter, stateShape, onBytes}
+use Rattle.state_bytes.specs.InPlace.{Lent, lent, lentOf, deviceIn, leavesState, stateAfter, stateShape, onBytes}
 use Rattle.state_bytes.proofs.Inverse.{length-encode, inverse}
 use Rattle.state_bytes.proofs.OnState.{Kept, Kind, same-on, write-kept, truncate-kept, sync-kept, mount-kept, format-kept, write-shaped, truncate-shaped, sync-shaped, mount-shaped, format-shaped}
 use Rattle.boxstore.specs.Interface.{wordOf, readBytes, lookCountBytes, spanWord, lookWord}
-use Rattle.boxstore.proofs.Counts.{on-small, write-small, truncate-small, sync-small, mount-small, format-small}
+use Rattle.boxstore.proofs.Counts.{on-small, read-small, look-small, write-small, truncate-small, sync-small, mount-small, format-small}
 use Rattle.boxstore.specs.Linked.{OnBytes, Linked}
 
 module _ (call : Device → Result Device) (kept : (d : Device) → Kept d (call d)) where
   same : (m : Media) (frames : List ℕ) (s : CacheState) → Shaped s → let r : Result Device = call (deviceOf m frames s) in
-      onBytes call (lent m frames (encode s)) ≡ give (r .answer) (lent (r .left .media) (r .left .frames) (encode (r .left .cache)))
+      onBytes call (lent m frames (encode s)) ≡ give (r .answer) (lentOf (r .left))
   unfolding onBytes stateShape
   same m frames s h = rw (eq-eqb (length (encode s)) stateBytes (length-encode s h)) (same-on call kept m frames s h)
 
@@ -49,7 +51,7 @@ module _ (call : Device → Result Device) (kept : (d : Device) → Kept d (call
       (λ e. rw e)
 
   any : (l : Lent) → length (l .state) ≡ stateBytes → let r : Result Device = call (deviceIn l) in
-      leavesState (r .answer) ≡ true → onBytes call l ≡ give (r .answer) (lent (r .left .media) (r .left .frames) (encode (r .left .cache)))
+      leavesState (r .answer) ≡ true → onBytes call l ≡ give (r .answer) (lentOf (r .left))
   unfolding onBytes stateShape stateAfter
   any l h e = rw (eq-eqb (length (l .state)) stateBytes h, e)
 
@@ -74,6 +76,34 @@ module _ (P f position : ℕ) (m : Media) (frames : List ℕ) (s : CacheState) (
   looking : lookWord P f position (lent m frames (encode s)) ≡ spanWord (lookSpan P f position (deviceOf m frames s))
   unfolding lookWord
   looking = rw (eq-eqb (length (encode s)) stateBytes (length-encode s h), inverse .there-and-back s h)
+
+-- on any bytes
+module _ (P f position : ℕ) (l : Lent) where
+  read-left : (buffer : List ℕ) → readBytes P f position buffer l .answer .number ≢ 0 → readBytes P f position buffer l .left ≡ buffer
+  unfolding readBytes stateShape
+  read-left buffer n =
+      cases (eqb (length (l .state)) stateBytes)
+      (λ e.
+      rw e
+      (read-by P f position buffer (deviceIn l) (λ r. r .answer .number ≢ 0 → r .left ≡ buffer) (λ k lo hi z. refl) (λ ok z. absurd (z refl)) (rw e at n)))
+      (λ e. rw e)
+
+  read-fits : fileBytes P < 65536 → (buffer : List ℕ) → readBytes P f position buffer l .answer .count < 65536
+  unfolding readBytes stateShape
+  read-fits h buffer =
+      cases (eqb (length (l .state)) stateBytes)
+      (λ e. rw e (omega (arith, read-small P f position buffer (deviceIn l))))
+      (λ e. rw e (omega arith))
+
+  count-fits : lookCountBytes P f position l .count < 65536
+  unfolding lookCountBytes stateShape
+  count-fits =
+      cases (eqb (length (l .state)) stateBytes)
+      (λ e. rw e (omega (arith, look-small P f position (deviceIn l))))
+      (λ e. rw e (omega arith))
+
+span-fits : (P f position : ℕ) (d : Device) → lookSpan P f position d .count < 65536
+span-fits P f position d = let w = span-within P f position d (lookSpan P f position d) refl in omega (arith, w .count-most)
 
 abbrev span : Bool → ℕ → ℕ → Span
 span x a b = record { cached = x; from = a; count = b }
@@ -109,6 +139,10 @@ linked P h = record {
   reading = λ f position buffer m frames s g. reading P f position m frames s g buffer;
   counting = counting P;
   looking = looking P;
+  read-refused = λ f position buffer l. read-left P f position l buffer;
+  read-small = λ f position buffer l. read-fits P f position l h buffer;
+  count-small = count-fits P;
+  span-small = span-fits P;
   spans = spans;
   words = words;
 }

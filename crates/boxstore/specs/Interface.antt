@@ -48,7 +48,8 @@ spanWord s = 4294967296 * s .from + 65536 * cond (s .cached) 1 0 + s .count
 unfoldable pub lookWord : ℕ → ℕ → ℕ → Lent → ℕ
 lookWord P f position l = cond (eqb (length (l .state)) stateBytes) (spanWord (lookSpan P f position (deviceIn l))) 0
 
--- the down state
+-- ---- the down state
+
 unfoldable pub downBytes : List ℕ → Result (List ℕ)
 downBytes state = admit (stateShape state) state (give (done 0) (encode downState))
 

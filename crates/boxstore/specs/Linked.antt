@@ -21,14 +21,14 @@ use Rattle.device.specs.Syncing.{sync}
 use Rattle.device.specs.Mounting.{mount, format}
 use Rattle.state_bytes.specs.Encoding.{stateBytes, encode}
 use Rattle.state_bytes.specs.Inverse.{Shaped}
-use Rattle.state_bytes.specs.InPlace.{Lent, lent, deviceIn, leavesState, onBytes}
+use Rattle.state_bytes.specs.InPlace.{Lent, lent, lentOf, deviceIn, leavesState, onBytes}
 use Rattle.boxstore.specs.Interface.{wordOf, readBytes, lookCountBytes, spanWord, lookWord}
 
 pub record OnBytes (call : Device → Result Device) : Type 0 where
   pub same : (m : Media) (frames : List ℕ) (s : CacheState) → Shaped s → let r : Result Device = call (deviceOf m frames s) in
-      onBytes call (lent m frames (encode s)) ≡ give (r .answer) (lent (r .left .media) (r .left .frames) (encode (r .left .cache)))
+      onBytes call (lent m frames (encode s)) ≡ give (r .answer) (lentOf (r .left))
   pub any : (l : Lent) → length (l .state) ≡ stateBytes → let r : Result Device = call (deviceIn l) in
-      leavesState (r .answer) ≡ true → onBytes call l ≡ give (r .answer) (lent (r .left .media) (r .left .frames) (encode (r .left .cache)))
+      leavesState (r .answer) ≡ true → onBytes call l ≡ give (r .answer) (lentOf (r .left))
   pub shaped : (d : Device) → Shaped (d .cache) → Shaped (call d .left .cache)
   pub refused : (l : Lent) → onBytes call l .answer .number ≢ 0 → onBytes call l .answer .number ≢ 9 → onBytes call l .left ≡ l
   pub small : (l : Lent) → onBytes call l .answer .count < 65536
@@ -46,5 +46,11 @@ pub record Linked (P : ℕ) : Type 0 where
       → lookCountBytes P f position (lent m frames (encode s)) ≡ lookCount P f position (deviceOf m frames s)
   pub looking : (f position : ℕ) (m : Media) (frames : List ℕ) (s : CacheState) → Shaped s
       → lookWord P f position (lent m frames (encode s)) ≡ spanWord (lookSpan P f position (deviceOf m frames s))
+  -- on any bytes
+  pub read-refused : (f position : ℕ) (buffer : List ℕ) (l : Lent) → readBytes P f position buffer l .answer .number ≢ 0 → readBytes P f position buffer l .left ≡ buffer
+  pub read-small : (f position : ℕ) (buffer : List ℕ) (l : Lent) → readBytes P f position buffer l .answer .count < 65536
+  pub count-small : (f position : ℕ) (l : Lent) → lookCountBytes P f position l .count < 65536
+  pub span-small : (f position : ℕ) (d : Device) → lookSpan P f position d .count < 65536
+  -- a word tells its answer, and where a look's part lies
   pub spans : (s t : Span) → s .count < 65536 → t .count < 65536 → spanWord s ≡ spanWord t → s ≡ t
   pub words : (a b : Coded) → a .count < 65536 → b .count < 65536 → wordOf a ≡ wordOf b → a ≡ b

@@ -35,7 +35,7 @@ unfolding slotTable
 table-at P slots j h = getD-each (files * P) (λ i. firstIndex (holds (i / P) (i % P)) slots) j 0 h
 
 -- the slot of a page that there is
-pub slot-for : (slots : List Slot) (table : List ℕ) (f p : ℕ) → table ≡ slotTable pagesPerFile slots → f < files → p < pagesPerFile → slotFor table f p ≡ firstIndex (holds f p) slots
+pub slot-for : (slots : List Slot) (table : List ℕ) (f p : ℕ) → table ≡ slotTable pagesPerFile slots → f < files → p < pagesPerFile → slotFor pagesPerFile table f p ≡ firstIndex (holds f p) slots
 unfolding slotFor
 slot-for slots table f p e hf hp =
     let a : (pagesPerFile * f + p) / pagesPerFile ≡ f = omega arith in

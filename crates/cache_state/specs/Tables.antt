@@ -24,8 +24,8 @@ unfoldable pub slotTable : ℕ → List Slot → List ℕ
 slotTable P slots = each (files * P) (λ i. firstIndex (holds (i / P) (i % P)) slots)
 
 -- the slot that a table has for page p of file f; slotCount where there is no such page
-unfoldable pub slotFor : List ℕ → ℕ → ℕ → ℕ
-slotFor table f p = cond (ltb f files && ltb p pagesPerFile) (getD table (pagesPerFile * f + p) 0) slotCount
+unfoldable pub slotFor : ℕ → List ℕ → ℕ → ℕ → ℕ
+slotFor P table f p = cond (ltb f files && ltb p P) (getD table (P * f + p) 0) slotCount
 
 -- what admission leaves: the slots of the state, or none on a refusal
 unfoldable pub tableAfter : Coded → List Slot → List ℕ

@@ -8,7 +8,7 @@ use device::Slot;
 ghost use mathlib.Core.Path.{_≡_};
 ghost use mathlib.Core.Bool.{true, false, _&&_};
 ghost use mathlib.Core.List.{List};
-ghost use Prim.Native.Nat.{ℕ, _+_, _*_, _<_, _≤_};
+ghost use Prim.Native.Nat.{ℕ, _+_, _<_, _≤_};
 ghost use lib.ListN.{length, getD};
 ghost use lib.Dec.{eqb, leb};
 ghost use Rattle.answer.specs.Coded.{coded, done};
@@ -19,7 +19,7 @@ ghost use Rattle.scan.specs.Scan.{firstIndex, every, everyBelow};
 ghost use Rattle.device.specs.Device.{deviceOf, slotCount, isFree, downState, mountedState};
 ghost use Rattle.device.specs.Sizes.{inOrder};
 ghost use Rattle.device.specs.Sound.{sizesIn, isDown, isSound};
-ghost use Rattle.state_bytes.specs.Encoding.{stateBytes, slotsAt, slotsIn, decode};
+ghost use Rattle.state_bytes.specs.Encoding.{stateBytes, slotsIn, decode};
 ghost use Rattle.state_bytes.specs.InPlace.{IsEncoded};
 ghost use Rattle.cache_state.specs.Freeing.{isFrom, freedSlots};
 ghost use Rattle.cache_state.specs.Tables.{noneCached, slotTable, slotFor, tableAfter, slotsPass, Passed};
@@ -237,7 +237,7 @@ fn none_cached() -> [u8; TABLE]
     [device::SLOTS as u8; TABLE]
 }
 
-// Slot k names a page that there is, which no slot before it holds, and the page gets its place in the table; or it is free and
+// Whether slot k names a page that there is and that no slot before it holds, whose place in the table then gets k; or is free and
 // carries 0 and 0.
 fn find_slot(state: &[u8], k: usize, slots: &mut [u8; TABLE]) -> bool
     requires { ⌜ (length (now state) ≡ stateBytes) × (k < slotCount) × Passed (now state) (now slots) k ⌝ }
@@ -406,7 +406,7 @@ fn admit_state(
 
 // The slot of a page by the table; SLOTS where there is no such page.
 pub fn slot_of(slots: &[u8; TABLE], file: usize, page: usize) -> usize
-    ensures { λ r. ⌜ r ≡ slotFor (now (slots .entry)) file page ⌝ }
+    ensures { λ r. ⌜ r ≡ slotFor pagesPerFile (now (slots .entry)) file page ⌝ }
 {
     if file < media::FILES {
         if page < media::PAGES_PER_FILE {

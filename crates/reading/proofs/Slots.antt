@@ -33,7 +33,7 @@ none-past stored c f p e l h =
 
 -- the table of a sound state has the slot of any page of a file
 pub slot-sound : (stored table : List ℕ) (c : CacheState) (f p : ℕ) → table ≡ slotTable pagesPerFile (c .slots) → isSound pagesPerFile stored c ≡ true → length (c .slots) ≡ slotCount → f < files
-    → slotFor table f p ≡ firstIndex (holds f p) (c .slots)
+    → slotFor pagesPerFile table f p ≡ firstIndex (holds f p) (c .slots)
 unfolding slotFor
 slot-sound stored table c f p e sound l h =
     split-lt p pagesPerFile

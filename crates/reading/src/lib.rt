@@ -77,8 +77,8 @@ fn read_stored(media: &[u8], floor: usize, file: usize, at: usize, buffer: &mut 
 // The first page of a file from `page` on, below `last`, that is cached, or `last`.
 fn cached_from(slots: &[u8; cache_state::TABLE], file: usize, page: usize, last: usize) -> usize
     requires { ⌜ page ≤ last ⌝ }
-    ensures { λ r. ⌜ (page ≤ r) × (r ≤ last) × ((p : ℕ) → page ≤ p → p < r → slotCount ≤ slotFor (now (slots .entry)) file p)
-        × (r < last → slotFor (now (slots .entry)) file r < slotCount) ⌝ }
+    ensures { λ r. ⌜ (page ≤ r) × (r ≤ last) × ((p : ℕ) → page ≤ p → p < r → slotCount ≤ slotFor pagesPerFile (now (slots .entry)) file p)
+        × (r < last → slotFor pagesPerFile (now (slots .entry)) file r < slotCount) ⌝ }
 {
     let mut p = page;
     while p < last {

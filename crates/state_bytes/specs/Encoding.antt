@@ -16,7 +16,7 @@ use Rattle.device.specs.declared.Slot.{Slot}
 use Rattle.device.specs.declared.CacheState.{CacheState}
 use Rattle.device.specs.Device.{slotCount, noSlots}
 
--- the number of bytes, and where the logical sizes and the floors begin
+-- the number of bytes, and where the slots, the logical sizes and the floors begin
 abbrev pub stateBytes : ℕ
 stateBytes = 137
 
@@ -96,15 +96,16 @@ encoded s before = cond (eqb (length before) stateBytes) (encode s) before
 
 -- ---- changed in place
 
--- n elements of c bytes each begin at a: the bytes with another element k. They stay where there is no such element, or where they
--- are of another length
+-- n elements begin at a, each of the c bytes that g gives: the bytes with another element k. They stay where there is no such element,
+-- or where they are of another length
 unfoldable pub elementSet : {A : Type 0} → (A → List ℕ) → ℕ → ℕ → ℕ → List ℕ → ℕ → A → List ℕ
 elementSet g a c n bytes k x = cond (eqb (length bytes) stateBytes && ltb k n) (overwrite bytes (a + c * k) (g x)) bytes
 
+-- another slot k
 abbrev pub slotSet : List ℕ → ℕ → Slot → List ℕ
 slotSet = elementSet slotBytes slotsAt 3 slotCount
 
--- among the sizes that begin at a
+-- another size of file f, among the sizes that begin at a
 abbrev pub sizeSet : ℕ → List ℕ → ℕ → ℕ → List ℕ
 sizeSet a = elementSet numberBytes a 4 files
 

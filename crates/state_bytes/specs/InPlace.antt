@@ -51,6 +51,6 @@ onState call l =
 unfoldable pub stateShape : List ℕ → List Test
 stateShape state = test (eqb (length state) stateBytes) SHAPE ∷ []
 
--- mount and format, which do not look at the bytes; and every call as it is linked
+-- mount and format, which do not look at the bytes; and every linked call that changes the device
 unfoldable pub onBytes : (Device → Result Device) → Lent → Result Lent
 onBytes call l = admit (stateShape (l .state)) l (onState call l)

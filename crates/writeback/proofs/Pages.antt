@@ -30,7 +30,7 @@ module _ (budget : ℕ) (d : Device) (f : ℕ) (before : ℕ) (m : Media) where
 
   -- page p, whose slot the table has
   pub pages-next : (p i n k slot : ℕ) (c e : Media) (frames table : List ℕ) → f < files → p < pagesPerFile → i ≡ p + 1 → d .frames ≡ frames
-      → table ≡ slotTable pagesPerFile (d .cache .slots) → slot ≡ slotFor table f p
+      → table ≡ slotTable pagesPerFile (d .cache .slots) → slot ≡ slotFor pagesPerFile table f p
       → Spent pagesPerFile budget m before n (pageWrites d f p 0) c
       → Spent pagesPerFile budget c n k
       (writeIf (ltb slot slotCount) (page f p (part frames (frameStart slot) pageBytes))) e

@@ -223,8 +223,8 @@ pub fn sync(
     }
 }
 
-// The end of a call that needed so many media writes: done with their number, and the bytes of this state; or CUT, which leaves the
-// device down.
+// The end of a mount or a format that needed so many media writes: done with their number, and the bytes of this state; or CUT, which
+// leaves the device down.
 fn finish(state: &mut [u8], writes: usize, budget: usize, cache: CacheState) -> Answer
     requires { ⌜ length (now state) ≡ stateBytes ⌝ }
     ensures { λ r. ⌜ ((m : Media) (frames : List ℕ) → give (coded r) (lent m frames (now (state .exit)))

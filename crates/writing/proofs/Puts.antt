@@ -62,7 +62,7 @@ taken-no b c x y e t = e ∙ rw t
 -- n bytes are left from position i of file f on: the table has the slots of the pages that they go to
 abbrev pub Told : List ℕ → ℕ → ℕ → ℕ → List Slot → Type 0
 Told table f i n slots =
-    0 < n → (p : ℕ) → i / pageBytes ≤ p → p < pagesPerFile → slotFor table f p ≡ firstIndex (holds f p) slots
+    0 < n → (p : ℕ) → i / pageBytes ≤ p → p < pagesPerFile → slotFor pagesPerFile table f p ≡ firstIndex (holds f p) slots
 
 module _ (table : List ℕ) (f : ℕ) where
   pub told-all : f < files → (i n : ℕ) (slots : List Slot) → table ≡ slotTable pagesPerFile slots → Told table f i n slots

@@ -12,12 +12,12 @@ use media::PAGES_PER_FILE;
 ghost use mathlib.Core.Path.{_≡_};
 ghost use mathlib.Core.Bool.{cond};
 ghost use mathlib.Core.List.{List, [], map};
-ghost use Prim.Native.Nat.{_+_, _-_, _*_, _≤_, _<_, _^_, ℕ, min, _%_, _/_, max};
+ghost use Prim.Native.Nat.{_+_, _≤_, _<_, _^_, ℕ, _/_, max};
 ghost use lib.ListN.{length, getD};
 ghost use lib.Dec.{leb};
 ghost use Rattle.answer.specs.Coded.{coded};
-ghost use Rattle.memory.specs.Bytes.{part, overwrite};
-ghost use Rattle.media.specs.Geometry.{files, fileBytes, mediaBytes, pageBytes, pageStart, pagesPerFile};
+ghost use Rattle.memory.specs.Bytes.{overwrite};
+ghost use Rattle.media.specs.Geometry.{files, fileBytes, mediaBytes, pageBytes, pagesPerFile};
 ghost use Rattle.media.specs.Write.{mediaOf};
 ghost use Rattle.scan.specs.Scan.{firstIndex};
 ghost use Rattle.device.specs.declared.CacheState.{CacheState};
@@ -25,7 +25,7 @@ ghost use Rattle.device.specs.Device.{freeWhere, withLogical, withSlots, device
 ghost use Rattle.device.specs.Admission.{give};
 ghost use Rattle.device.specs.Sound.{sizesIn};
 ghost use Rattle.device.specs.Sizes.{truncatedSizes, sizesAnswer, sizesAfter};
-ghost use Rattle.device.specs.Writing.{hasSlot, blankPage, cachePage, putPage, putPages, write};
+ghost use Rattle.device.specs.Writing.{hasSlot, filledPage, cachePage, putPage, putPages, write};
 ghost use Rattle.device.specs.Truncating.{pagesFrom, clearTail, withSizes, truncate};
 ghost use Rattle.state_bytes.specs.Encoding.{decode};
 ghost use Rattle.state_bytes.specs.InPlace.{lent, IsEncoded, onState};
@@ -52,8 +52,8 @@ fn fill_frame(
 )
     requires { ⌜ (fileBytes pages < 2 ^ 32) × (length (now media) ≡ mediaBytes pages) × (length (now frames) ≡ framesBytes) × (file < files) × (page < pages)
         × (k < slotCount) ⌝ }
-    ensures { λ r. ⌜ now (frames .exit) ≡ overwrite (now (frames .entry)) (frameStart k)
-        (overwrite blankPage 0 (part (now (media .entry)) (pageStart pages file page) (min pageBytes (floor - pageBytes * page)))) ⌝ }
+    ensures { λ r. ⌜ ((stored : List ℕ) (c : CacheState) → floor ≡ getD (c .floor) file 0 → now (frames .exit)
+        ≡ overwrite (now (frames .entry)) (frameStart k) (filledPage pages (deviceOf (mediaOf (now (media .entry)) stored) (now (frames .entry)) c) file page)) ⌝ }
 {
     let at = PAGE_BYTES * page;
     let from = file * (PAGE_BYTES * pages) + at;

@@ -30,7 +30,7 @@ store_of!(
 
 const HELP: &str = "\
 usage: bench                   all scenarios, as Markdown tables
-       bench --check           one short round of each, with the comparisons only
+       bench --check           two passes of each, with the comparisons only, untimed
        bench --rounds N        rounds of each side (15)
        bench --millis N        milliseconds of one side in one round (20)
        bench --only TEXT       scenarios whose name has the text
@@ -164,7 +164,7 @@ fn run(options: &Options, out: &mut impl Write) -> io::Result<()> {
         "\nThe media are memory, on both sides. The plain copy is the plain work on the bytes that the calls move: a copy of \
          those between caller and store and of the pages written to the media, a fill of those that a trim clears, and a \
          scan (an OR over the bytes) of those that a mount or a format has to look at. bytes/s counts all these. \
-         Medians of {} rounds of {} ms.\n",
+         Medians of {} rounds of {} ms; a ratio is the median of those of the rounds.\n",
         options.effort.rounds,
         options.effort.round.as_millis(),
     )?;

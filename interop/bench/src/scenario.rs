@@ -191,10 +191,10 @@ impl Run {
     /// - read and write: a copy of the bytes between the caller and the store;
     /// - sync: a copy of 256 bytes for each page that is written to the media,
     ///   and a fill of the bytes that a trim clears;
-    /// - mount: a scan of the bytes past the stored sizes, and a fill for each
-    ///   trim;
-    /// - format: a scan of the files whose stored size is 0, and a fill for each
-    ///   trim;
+    /// - mount: a scan of the bytes past the stored sizes, of each file up to
+    ///   the first that is not 0, and a fill for each trim;
+    /// - format: such a scan of the files whose stored size is 0, and a fill
+    ///   for each trim;
     /// - truncate, look and look count: none.
     ///
     /// The bytes that fill a page when it becomes cached, and the cache state,
@@ -227,21 +227,28 @@ impl Run {
             Step::Mount => {
                 for (bytes, &size) in before.media.chunks(FILE_BYTES).zip(&before.sizes) {
                     let past = &bytes[size as usize..];
-                    work.push(Work::Scan(past.len()));
+                    work.push(scan(past));
                     if past.iter().any(|&byte| byte != 0) {
                         work.push(Work::Fill(past.len()));
                     }
                 }
             }
             Step::Format => {
-                let empty = before.sizes.iter().filter(|&&size| size == 0).count();
-                work.extend(std::iter::repeat_n(Work::Scan(FILE_BYTES), empty));
+                let files = before.media.chunks(FILE_BYTES).zip(&before.sizes);
+                let empty = files.filter(|(_, &size)| size == 0);
+                work.extend(empty.map(|(bytes, _)| scan(bytes)));
                 work.extend(std::iter::repeat_n(Work::Fill(FILE_BYTES), count));
             }
             _ => {}
         }
         work
     }
+}
+
+/// A scan of bytes up to the first that is not 0.
+fn scan(bytes: &[u8]) -> Work {
+    let first = bytes.iter().position(|&byte| byte != 0);
+    Work::Scan(first.map_or(bytes.len(), |index| index + 1))
 }
 
 /// Plain work on a number of bytes.
@@ -407,8 +414,9 @@ fn mount_prepare() -> Vec<Step> {
 /// The length of the mixed session.
 const MIXED: usize = 4_000;
 
-/// A session of calls of all kinds, which begins with a format: three quarters
-/// are small reads, writes and looks near each other, as a firmware makes them.
+/// A session of calls of all kinds, which begins with a format. Of 113 calls 30
+/// are small reads, 30 small writes, 20 syncs and 10 looks, at any place of any
+/// file.
 fn mixed() -> Vec<Step> {
     let mut rng = Rng::new(5);
     let mut steps = START.to_vec();
@@ -474,8 +482,10 @@ mod tests {
         odometer.push(Fill(4_096));
         assert_eq!(work("odometer"), odometer);
 
-        // what is past the stored sizes 0, 500, .. 3,500; file 3 is trimmed
+        // what is past the stored sizes 0, 500, .. 3,500; file 3 is trimmed, for
+        // a byte 37 past its 1,500
         let mut mount: Vec<Work> = (0..8).map(|file| Scan(4_096 - 500 * file)).collect();
+        mount[3] = Scan(37);
         mount.insert(4, Fill(2_596));
         assert_eq!(work("mount"), mount.repeat(4));
 

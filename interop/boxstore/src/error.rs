@@ -4,18 +4,20 @@ use std::fmt;
 
 /// Why a call was refused. All but [`Error::Cut`] leave everything as it was.
 #[derive(Clone, Copy, Debug, PartialEq, Eq, Hash)]
+#[non_exhaustive]
 pub enum Error {
     /// SHAPE (2): a slice has another length than the call needs.
     Shape,
     /// MEDIA (3): a stored size is above 4,096.
     Media,
-    /// BOOKS (4): the cache state is not sound.
+    /// BOOKS (4): the cache state, or a record of sizes, is not sound.
     Books,
     /// DOWN (5): the device is not mounted.
     Down,
     /// NO FILE (6): the file number is above 7.
     NoFile,
-    /// RANGE (7): a position, a size, or the end of a write is above 4,096.
+    /// RANGE (7): a position, a size, or the end of a write is above its limit:
+    /// 4,096, or what the call of [`raw`](crate::raw) says.
     Range,
     /// NO ROOM (8): the first page of a write is not cached, while 24 others
     /// are. Sync a file first.
@@ -75,12 +77,12 @@ impl fmt::Display for Error {
                 "SHAPE (2): a slice has another length than the call needs"
             ),
             Error::Media => write!(f, "MEDIA (3): a stored size is above 4,096"),
-            Error::Books => write!(f, "BOOKS (4): the cache state is not sound"),
+            Error::Books => write!(f, "BOOKS (4): the cache state, or a record of sizes, is not sound"),
             Error::Down => write!(f, "DOWN (5): the device is not mounted"),
             Error::NoFile => write!(f, "NO FILE (6): the file number is above 7"),
             Error::Range => write!(
                 f,
-                "RANGE (7): a position, a size, or the end of a write is above 4,096"
+                "RANGE (7): a position, a size, or the end of a write is above its limit"
             ),
             Error::NoRoom => write!(
                 f,
@@ -88,7 +90,7 @@ impl fmt::Display for Error {
             ),
             Error::Cut { done } => write!(
                 f,
-                "CUT (9): the budget paid for {done} media write{}, and more were needed",
+                "CUT (9): the budget paid for {done} media write{}, and more were needed; the device is down",
                 if *done == 1 { "" } else { "s" }
             ),
         }
@@ -107,12 +109,12 @@ mod tests {
             "SHAPE (2): a slice has another length than the call needs",
         ),
         (Error::Media, "MEDIA (3): a stored size is above 4,096"),
-        (Error::Books, "BOOKS (4): the cache state is not sound"),
+        (Error::Books, "BOOKS (4): the cache state, or a record of sizes, is not sound"),
         (Error::Down, "DOWN (5): the device is not mounted"),
         (Error::NoFile, "NO FILE (6): the file number is above 7"),
         (
             Error::Range,
-            "RANGE (7): a position, a size, or the end of a write is above 4,096",
+            "RANGE (7): a position, a size, or the end of a write is above its limit",
         ),
         (
             Error::NoRoom,
@@ -120,15 +122,15 @@ mod tests {
         ),
         (
             Error::Cut { done: 0 },
-            "CUT (9): the budget paid for 0 media writes, and more were needed",
+            "CUT (9): the budget paid for 0 media writes, and more were needed; the device is down",
         ),
         (
             Error::Cut { done: 1 },
-            "CUT (9): the budget paid for 1 media write, and more were needed",
+            "CUT (9): the budget paid for 1 media write, and more were needed; the device is down",
         ),
         (
             Error::Cut { done: 17 },
-            "CUT (9): the budget paid for 17 media writes, and more were needed",
+            "CUT (9): the budget paid for 17 media writes, and more were needed; the device is down",
         ),
     ];
 

@@ -12,7 +12,9 @@
 //! all included, and each later truncate carried out or left out.
 //!
 //! The premise: the media does each media write whole or not at all, in order,
-//! and nothing else alters media, sizes, frames or state between calls.
+//! and nothing else alters media, sizes, frames or state between calls. A
+//! [`Device`] has its media in memory; `boxstore.h` says which media writes of
+//! a call a driver carries from there to a part, and in which order.
 //!
 //! ```
 //! use boxstore::{Device, MOUNT_WRITES, SYNC_WRITES};

@@ -4,8 +4,7 @@
 //!
 //! The cache state is worked on in place, in its 137 bytes. Nothing is
 //! allocated, and a byte is moved only where the call's result needs it moved.
-//! No function is inlined into its caller, as those of a linked archive are
-//! not.
+//! No call is inlined into its caller, as those of a linked archive are not.
 
 mod state;
 

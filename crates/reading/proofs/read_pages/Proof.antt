@@ -143,7 +143,7 @@ loop-again-2 c =
           let e-q = slot-for (d .slots) _ (a .file) q e-slots (omega arith) (omega (arith, f .cached-from .ensures .1)) in
           split-lt (at / pageBytes) q
           (λ h. omega (arith, e-q, f .cached-from .ensures .2 q (omega arith) below))
-          (λ h. let e : at / pageBytes ≡ q = omega arith in let z : slotCount ≤ slotFor (a .slots .now) (a .file) (at / pageBytes) = omega (arith, k .slot-of .ensures) in omega (arith, e-q, rw e at z)) in
+          (λ h. let e : at / pageBytes ≡ q = omega arith in let z : slotCount ≤ slotFor pagesPerFile (a .slots .now) (a .file) (at / pageBytes) = omega (arith, k .slot-of .ensures) in omega (arith, e-q, rw e at z)) in
           read-to pagesPerFile (deviceOf (mediaOf (a .media .now) stored) (a .frames .now) d) (a .file) (a .buffer .now) (l .loop .buffer) left (a .position) i to (omega arith) (l .loop .inv .0 stored d e-slots e-floor) (p .read-stored .ensures stored (a .frames .now) d none e-floor) fits,
       omega arith,
       length-put i to (l .loop .buffer) left (omega (arith, p .read-stored .kept)) (omega arith) fits ∙ l .loop .inv .2,

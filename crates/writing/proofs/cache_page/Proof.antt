@@ -1,6 +1,7 @@
 -- `writing::cache_page` meets its contract: the slot k was the first free one.
 use mathlib.Core.Path.{_≡_, _∙_}
-use Rattle.device.specs.Writing.{filledPage, cachePage}
+use Rattle.device.specs.Writing.{cachePage}
+use Rattle.state_bytes.specs.Encoding.{decode}
 use Rattle.state_bytes.proofs.InPlace.{slot-changed}
 use borrow.Author.Needs.{needs}
 use Rattle.writing.proofs.cache_page.Statement.{statement}
@@ -31,11 +32,11 @@ same-length-2 : tie.Need-same-length-2
 same-length-2 c = search needs
 
 returns : tie.Need-returns
-unfolding cachePage filledPage
+unfolding cachePage
 returns c =
     let s = c .before .before .before .before .before .before .before .before .before .before .before .before .before in
     let x = slot-changed (s .args .state .now) (s .pre .7) _ _ _ (c .before .before .set-slot .ensures) in
-    (λ stored. rw (x .0, c .before .before .before .before .before .before .fill-frame .ensures, c .before .before .before .before .before .before .before .before .floor-at .ensures, ← (s .pre .6)), x .1)
+    (λ stored. rw (x .0, c .before .before .before .before .before .before .fill-frame .ensures stored (decode (s .args .state .now)) (c .before .before .before .before .before .before .before .before .floor-at .ensures), ← (s .pre .6)), x .1)
 
 pub cache-page-spec : {M : Type 1} → statement M
 cache-page-spec =

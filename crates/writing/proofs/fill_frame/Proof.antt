@@ -9,7 +9,7 @@ use Rattle.memory.proofs.Bytes.{overwrite-over}
 use Rattle.media.specs.Geometry.{pageBytes, fileBytes, mediaBytes, fileStart, pageStart}
 use Rattle.media.proofs.Geometry.{file-end}
 use Rattle.device.specs.Device.{frameStart}
-use Rattle.device.specs.Writing.{blankPage}
+use Rattle.device.specs.Writing.{blankPage, filledPage}
 use borrow.Author.Needs.{needs}
 use Rattle.writing.proofs.fill_frame.Statement.{statement}
 use Rattle.writing.proofs.fill_frame.Tie as tie
@@ -71,7 +71,7 @@ same-length : tie.Need-same-length
 same-length c = search needs
 
 returns : tie.Need-returns
-unfolding fileStart blankPage
+unfolding fileStart blankPage filledPage
 returns c =
     let m = c .before .before .before .before .before .before .before .before .before .before in
     let a = c .before .before .before .before .before .before .before .before .before .before .before .before .before .before .args in
@@ -80,9 +80,10 @@ returns c =
     let e : start + m .min .result - start ≡ n = omega arith in
     let f = frameStart (a .k) in
     let short : length (part (a .media .now) start n) ≤ pageBytes = simp length-take (omega arith) in
-    c .before .before .patch-frames2 .ensures
+    λ stored s q. rw (← q)
+    (c .before .before .patch-frames2 .ensures
     ∙ ap (λ (t : List ℕ). overwrite t f (part (a .media .now) start (start + m .min .result - start))) (c .before .before .before .before .before .before .before .patch-frames .ensures)
-    ∙ rw e (overwrite-over (a .frames .now) f blankPage (part (a .media .now) start n) short)
+    ∙ rw e (overwrite-over (a .frames .now) f blankPage (part (a .media .now) start n) short))
 
 pub fill-frame-spec : {M : Type 1} → statement M
 fill-frame-spec =
