@@ -40,7 +40,8 @@ fn patch_frames(frames: &mut [u8], at: usize, bytes: &[u8])
     memory::copy(&mut frames[at..end], bytes);
 }
 
-// The page frame of slot k gets a page as it becomes cached: a blank page, overlaid with the bytes of the media below the floor.
+// The page frame of slot k gets a page as it becomes cached: a blank page, overlaid with the bytes of the media below the floor. Where
+// these fill the page, there is no need of a blank one.
 fn fill_frame(
     media: &[u8],
     frames: &mut [u8],
@@ -58,9 +59,13 @@ fn fill_frame(
     let at = PAGE_BYTES * page;
     let from = file * (PAGE_BYTES * pages) + at;
     let end = from + number::min(PAGE_BYTES, number::saturating_sub(floor, at));
-    let blank = [0u8; 256];
-    patch_frames(frames, PAGE_BYTES * k, &blank);
-    patch_frames(frames, PAGE_BYTES * k, &media[from..end]);
+    if end - from < PAGE_BYTES {
+        let blank = [0u8; 256];
+        patch_frames(frames, PAGE_BYTES * k, &blank);
+        patch_frames(frames, PAGE_BYTES * k, &media[from..end]);
+    } else {
+        patch_frames(frames, PAGE_BYTES * k, &media[from..end]);
+    }
 }
 
 // A page becomes cached, in slot k, the first that is free.

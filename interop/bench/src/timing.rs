@@ -1,5 +1,6 @@
 //! Rounds of several sides by turns.
 
+use std::hint::black_box;
 use std::time::{Duration, Instant};
 
 /// How long a measurement takes.
@@ -15,7 +16,8 @@ pub struct Effort {
 pub type Side<'a> = Box<dyn FnMut(usize) + 'a>;
 
 /// The seconds of one pass, of each side in each round. All sides take their
-/// turn in every round, and the first to go changes from round to round.
+/// turn in every round, and the first to go changes from round to round, and so
+/// does the place on the stack.
 pub fn measure(sides: &mut [Side<'_>], effort: Effort) -> Vec<Vec<f64>> {
     let start = Instant::now();
     measure_by(sides, effort, &|| start.elapsed())
@@ -35,11 +37,29 @@ fn measure_by(
     for round in 0..effort.rounds {
         for turn in 0..sides.len() {
             let index = (round + turn) % sides.len();
-            let taken = time(&mut sides[index], passes[index], clock);
-            times[index].push(taken / passes[index] as f64);
+            at_depth(round % DEPTHS, &mut || {
+                let taken = time(&mut sides[index], passes[index], clock);
+                times[index].push(taken / passes[index] as f64);
+            });
         }
     }
     times
+}
+
+/// As many depths as make up a page of the machine, 4,096 bytes, and more.
+const DEPTHS: usize = 16;
+
+/// Calls from some depth of the stack. Where a call's own memory lies, beside
+/// that of the store, modulo 4,096, makes a difference to its time.
+#[inline(never)]
+fn at_depth(depth: usize, call: &mut dyn FnMut()) {
+    let room = black_box([0; 272]);
+    if depth == 0 {
+        call();
+    } else {
+        at_depth(depth - 1, call);
+    }
+    black_box::<&[u8; 272]>(&room);
 }
 
 fn time(side: &mut Side<'_>, passes: usize, clock: &dyn Fn() -> Duration) -> f64 {

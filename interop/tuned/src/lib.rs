@@ -138,8 +138,13 @@ pub fn read(
 fn copy_stored(file: &[u8], floor: usize, position: usize, buffer: &mut [u8]) {
     let stored = floor.saturating_sub(position).min(buffer.len());
     let (front, rest) = buffer.split_at_mut(stored);
-    front.copy_from_slice(&file[position..position + stored]);
-    rest.fill(0);
+    // A call of the C library for no byte takes its time too.
+    if !front.is_empty() {
+        front.copy_from_slice(&file[position..position + stored]);
+    }
+    if !rest.is_empty() {
+        rest.fill(0);
+    }
 }
 
 /// Puts bytes into cached pages.
