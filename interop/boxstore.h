@@ -31,8 +31,8 @@
  * Calls on different memory may run at the same time; on the same memory one call must end before the next begins, in an
  * interrupt too.
  *
- * The archive is for x86-64: size_t has 8 bytes. It needs nothing but memmove and memset. sizes are numbers of the machine; the sizes
- * inside the state have their low byte first on every machine.
+ * The archive is for x86-64: size_t has 8 bytes. It needs nothing but memcpy, memmove and memset. sizes are numbers of the
+ * machine; the sizes inside the state have their low byte first on every machine.
  *
  * The answer is one word, 65,536 * number + count. Number 0 is done, so a done call answers its count, below
  * BOXSTORE_REFUSED. Otherwise the number says why the call was refused, and is the first of these that applies:
@@ -56,9 +56,9 @@
  *    73 + 4 * f      logical size of file f, as read and write see it: 4 bytes, low byte first
  *   105 + 4 * f      floor of file f, the smallest of its stored size and of all truncates since the last sync or mount: alike
  *
- * The down state is 137 bytes of 0. A state is sound where byte 0 is 0 or 1; used slots name files 0 to 7 and pages 0 to 15, none
- * twice, and free slots are three bytes of 0; of each file floor <= logical size <= 4,096 and floor <= stored size; and where
- * byte 0 is 0, all other bytes are 0 too.
+ * The down state is 137 bytes of 0. A state is sound where byte 0 and the first byte of each slot are 0 or 1; used slots name files
+ * 0 to 7 and pages 0 to 15, none twice, and free slots are three bytes of 0; of each file floor <= logical size <= 4,096 and
+ * floor <= stored size; and where byte 0 is 0, all other bytes are 0 too.
  */
 #ifndef BOXSTORE_H
 #define BOXSTORE_H

@@ -3,40 +3,38 @@ use mathlib.Core.Path.{_≡_, refl, ap}
 use mathlib.Core.Logic.{_≢_}
 use mathlib.Core.Bool.{Bool, true, false}
 use mathlib.Core.List.{List, [], _∷_, _++_}
-use Prim.Native.Nat.{ℕ, zero, suc, _+_, _≤_, _<_}
-use native.Mathlib.Nat.{le-trans}
+use Prim.Native.Nat.{ℕ, zero, suc, _+_, _≤_, _<_, max}
 use native.Mathlib.Omega.{arith}
 use lib.Dec.{eqb}
 use lib.ListN.{length, length-append}
-use borrow.Author.Tests.{leb-true}
+use borrow.Author.Tests.{eqb-true, leb-true}
 use borrow.Table.Steps.{cases}
 use Rattle.answer.specs.Coded.{Coded, done, refused, SHAPE, BOOKS, NO-FILE, RANGE}
 use Rattle.answer.specs.Admission.{Test, test, firstRefusal}
 use Rattle.answer.proofs.Admission.{Changeless, first-by}
-use Rattle.media.specs.Geometry.{files, pageBytes, fileBytes, pagesPerFile}
+use Rattle.media.specs.Geometry.{files, pageBytes, fileBytes, mediaBytes}
 use Rattle.media.specs.Write.{Media, MediaWrite}
 use Rattle.media.specs.Write.MediaWrite.{trim}
 use Rattle.media.specs.Direct.{pageAnswer, sizeTests, sizeAnswer, storedTest, trimAnswer}
 use Rattle.device.specs.declared.FileSizes.{FileSizes}
-use Rattle.device.specs.Device.{Device}
+use Rattle.device.specs.Device.{Device, framesBytes}
 use Rattle.device.specs.Sizes.{sizesTests, sizesAnswer}
 use Rattle.device.specs.Admission.{Result, give}
 use Rattle.device.specs.Plan.{writeIf}
-use Rattle.device.specs.Reading.{read}
-use Rattle.device.specs.Looking.{toPageEnd, lookCount}
 use Rattle.device.specs.Writing.{write}
 use Rattle.device.specs.Truncating.{truncate}
 use Rattle.device.specs.Syncing.{sync}
 use Rattle.device.specs.Mounting.{trimsFrom, mountPlan, mount, formatPlan, format}
 use Rattle.device.proofs.Sound.{sound-sizes}
 use Rattle.device.proofs.Reading.{read-by}
-use Rattle.device.proofs.Looking.{look-by}
+use Rattle.device.proofs.Looking.{look-by, look-within}
 use Rattle.device.proofs.Writing.{write-by, pages-most}
 use Rattle.device.proofs.Truncating.{truncate-by}
 use Rattle.device.proofs.Syncing.{sync-by, sync-at-most}
 use Rattle.device.proofs.Mounting.{mount-by, format-by}
 use Rattle.state_bytes.specs.Encoding.{stateBytes}
-use Rattle.state_bytes.specs.InPlace.{Lent, deviceIn, stateShape, onBytes}
+use Rattle.state_bytes.specs.InPlace.{Lent, deviceIn, stateShape, onBytes, readBytes, lookCountBytes, lookSpanBytes}
+use Rattle.state_bytes.proofs.OnBytes.{span-on}
 
 -- an answer that is that of a call
 pub counts : {A : Type 0} (a : Coded) (x : A) (r : Result A) (n : ℕ) → give a x ≡ r → r .answer .count ≤ n → a .count ≤ n
@@ -51,15 +49,33 @@ pub on-small : (call : Device → Result Device) (n : ℕ) → ((d : Device) →
 unfolding onBytes stateShape
 on-small call n most l = cases (eqb (length (l .state)) stateBytes) (λ e. rw e (most (deviceIn l))) (λ e. rw e (omega arith))
 
+module _ (P f position : ℕ) (l : Lent) where
+  pub read-small : (buffer : List ℕ) → readBytes P f position buffer l .answer .count ≤ fileBytes P
+  unfolding readBytes stateShape
+  read-small buffer =
+      let d : Device = deviceIn l in
+      cases (eqb (length (l .state)) stateBytes)
+      (λ e.
+      rw e
+      (read-by P f position buffer d (λ r. r .answer .count ≤ fileBytes P) (λ k h n. omega arith)
+      (λ ad. omega (arith, sound-sizes P (d .media .sizes) (d .cache) f (ad .sound) (ad .file)))))
+      (λ e. rw e (omega arith))
+
+  pub look-small : lookCountBytes P f position l .count ≤ pageBytes
+  unfolding lookCountBytes stateShape
+  look-small =
+      cases (eqb (length (l .state)) stateBytes)
+      (λ e. rw e (look-by P f position (deviceIn l) (λ a _. a .count ≤ pageBytes) (λ k h n. omega arith) (λ ad. omega arith)))
+      (λ e. rw e (omega arith))
+
+  pub span-small : (lookSpanBytes P f position l .from ≤ max framesBytes (mediaBytes P)) × (lookSpanBytes P f position l .count ≤ pageBytes)
+  unfolding lookSpanBytes lookCountBytes stateShape
+  span-small =
+      cases (eqb (length (l .state)) stateBytes)
+      (λ e. let w = look-within P f position (deviceIn l) in rw (← span-on P f position l (eqb-true _ _ e)) (w .from-most, w .count-most))
+      (λ e. rw e (omega arith, omega arith))
+
 module _ (P : ℕ) where
-  pub read-small : (f position : ℕ) (buffer : List ℕ) (d : Device) → read P f position buffer d .answer .count ≤ fileBytes P
-  read-small f position buffer d =
-      read-by P f position buffer d (λ r. r .answer .count ≤ fileBytes P) (λ k h n. omega arith)
-      (λ ad. omega (arith, sound-sizes P (d .media .sizes) (d .cache) f (ad .sound) (ad .file)))
-
-  pub look-small : (f position : ℕ) (d : Device) → lookCount P f position d .count ≤ pageBytes
-  look-small f position d = look-by P f position d (λ a _. a .count ≤ pageBytes) (λ k h n. omega arith) (λ ad. omega arith)
-
   pub write-small : (f position : ℕ) (bytes : List ℕ) (d : Device) → write P f position bytes d .answer .count ≤ fileBytes P
   write-small f position bytes d =
       write-by P f position bytes d (λ r. r .answer .count ≤ fileBytes P) (λ k h n. omega arith)

@@ -1,109 +1,84 @@
 -- A linked caller's calls are the calls on the device.
 use mathlib.Core.Path.{_≡_, refl, ap, _∙_}
 use mathlib.Core.Logic.{_≢_}
-use mathlib.Core.Bool.{Bool, true, false, cond, _||_}
+use mathlib.Core.Bool.{Bool, true, false, cond}
 use mathlib.Core.List.{List}
 use Prim.Native.Nat.{ℕ, _+_, _*_, _≤_, _<_}
 use native.Mathlib.Omega.{arith}
 use lib.Dec.{eqb}
 use lib.ListN.{length}
-use borrow.Author.Tests.{eq-eqb, ne-eqb}
+use borrow.Author.Tests.{eqb-true}
 use borrow.Table.Steps.{cases}
 use Rattle.answer.specs.Coded.{Coded}
 use Rattle.media.specs.Geometry.{files, fileBytes}
-use Rattle.media.specs.Write.{Media}
-use Rattle.device.specs.declared.CacheState.{CacheState}
 use Rattle.device.specs.declared.Span.{Span}
-use Rattle.device.specs.Device.{Device, deviceOf}
-use Rattle.device.specs.Admission.{Result, give}
-use Rattle.device.specs.Reading.{read}
-use Rattle.device.specs.Looking.{lookCount, lookSpan}
+use Rattle.device.specs.Device.{Device}
+use Rattle.device.specs.Admission.{Result}
 use Rattle.device.specs.Writing.{write}
 use Rattle.device.specs.Truncating.{truncate}
 use Rattle.device.specs.Syncing.{sync}
 use Rattle.device.specs.Mounting.{mount, format}
 use Rattle.device.proofs.Reading.{read-by}
-use Rattle.device.proofs.Looking.{span-within}
-use Rattle.state_bytes.specs.Encoding.{stateBytes, encode}
-use Rattle.state_bytes.specs.Inverse.{Shaped}
-use Rattle.state_bytes.specs.InPlace.{Lent, lent, lentOf, deviceIn, leavesState, stateAfter, stateShape, onBytes}
-use Rattle.state_bytes.proofs.Inverse.{length-encode, inverse}
-use Rattle.state_bytes.proofs.OnState.{Kept, Kind, same-on, write-kept, truncate-kept, sync-kept, mount-kept, format-kept, write-shaped, truncate-shaped, sync-shaped, mount-shaped, format-shaped}
-use Rattle.boxstore.specs.Interface.{wordOf, readBytes, lookCountBytes, spanWord, lookWord}
-use Rattle.boxstore.proofs.Counts.{on-small, read-small, look-small, write-small, truncate-small, sync-small, mount-small, format-small}
+use Rattle.device.proofs.Writing.{write-by}
+use Rattle.device.proofs.Truncating.{truncate-by}
+use Rattle.device.proofs.Syncing.{sync-by}
+use Rattle.device.proofs.Mounting.{mount-by, format-by}
+use Rattle.state_bytes.specs.Encoding.{stateBytes}
+use Rattle.state_bytes.specs.Inverse.{AreBytes}
+use Rattle.state_bytes.specs.InPlace.{Lent, deviceIn, stateShape, onBytes, readBytes}
+use Rattle.state_bytes.proofs.Inverse.{inverse}
+use Rattle.state_bytes.proofs.OnBytes.{Kind, same-on, same-read, same-count, same-span, write-shaped, truncate-shaped, sync-shaped, mount-shaped, format-shaped}
+use Rattle.boxstore.specs.Interface.{wordOf, spanWord}
+use Rattle.boxstore.proofs.Counts.{on-small, read-small, look-small, span-small, write-small, truncate-small, sync-small, mount-small, format-small}
 use Rattle.boxstore.specs.Linked.{OnBytes, Linked}
 
-module _ (call : Device → Result Device) (kept : (d : Device) → Kept d (call d)) where
-  same : (m : Media) (frames : List ℕ) (s : CacheState) → Shaped s → let r : Result Device = call (deviceOf m frames s) in
-      onBytes call (lent m frames (encode s)) ≡ give (r .answer) (lentOf (r .left))
-  unfolding onBytes stateShape
-  same m frames s h = rw (eq-eqb (length (encode s)) stateBytes (length-encode s h)) (same-on call kept m frames s h)
+-- ---- a refusal of the first eight leaves the device as it came
 
-  refused : (l : Lent) → onBytes call l .answer .number ≢ 0 → onBytes call l .answer .number ≢ 9 → onBytes call l .left ≡ l
-  unfolding onBytes stateShape stateAfter
-  refused l n m =
+abbrev Kept : Device → Result Device → Type 0
+Kept d r = r .answer .number ≢ 0 → r .answer .number ≢ 9 → r .left ≡ d
+
+module _ (P : ℕ) (d : Device) where
+  write-kept : (f position : ℕ) (bytes : List ℕ) → Kept d (write P f position bytes d)
+  write-kept f position bytes = write-by P f position bytes d (Kept d) (λ k lo hi n m. refl) (λ ad room n m. absurd (n refl))
+
+  truncate-kept : (f n : ℕ) → Kept d (truncate P f n d)
+  truncate-kept f n = truncate-by P f n d (Kept d) (λ k lo hi n m. refl) (λ ad n m. absurd (n refl))
+
+  sync-kept : (f budget : ℕ) → Kept d (sync P f budget d)
+  sync-kept f budget = sync-by P f budget d (Kept d) (λ k lo hi n m. refl) (λ ad l n m. absurd (m refl)) (λ ad l n m. absurd (n refl))
+
+  mount-kept : (budget : ℕ) → Kept d (mount P budget d)
+  mount-kept budget = mount-by P budget d (Kept d) (λ k lo hi n m. refl) (λ l x n m. absurd (m refl)) (λ l x y n m. absurd (n refl))
+
+  format-kept : (budget : ℕ) → Kept d (format P budget d)
+  format-kept budget = format-by P budget d (Kept d) (λ k lo hi n m. refl) (λ l n m. absurd (m refl)) (λ l x y n m. absurd (n refl))
+
+module _ (call : Device → Result Device) (kept : (d : Device) → Kept d (call d)) where
+  refused : (l : Lent) → AreBytes (l .state) → onBytes call l .answer .number ≢ 0 → onBytes call l .answer .number ≢ 9 → onBytes call l .left ≡ l
+  unfolding onBytes stateShape
+  refused l small n m =
       cases (eqb (length (l .state)) stateBytes)
-      (λ e.
-      let k : call (deviceIn l) .answer .number ≢ 0 = rw e at n in
-      let j : call (deviceIn l) .answer .number ≢ 9 = rw e at m in
-      let q : eqb (call (deviceIn l) .answer .number) 0 || eqb (call (deviceIn l) .answer .number) 9 ≡ false = rw (ne-eqb _ 0 k, ne-eqb _ 9 j) in
-      rw (e, q, kept (deviceIn l) q))
+      (λ e. rw (e, kept (deviceIn l) (rw e at n) (rw e at m), inverse .back-and-there (l .state) (eqb-true _ _ e) small))
       (λ e. rw e)
 
-  any : (l : Lent) → length (l .state) ≡ stateBytes → let r : Result Device = call (deviceIn l) in
-      leavesState (r .answer) ≡ true → onBytes call l ≡ give (r .answer) (lentOf (r .left))
-  unfolding onBytes stateShape stateAfter
-  any l h e = rw (eq-eqb (length (l .state)) stateBytes h, e)
-
-  small : (n : ℕ) → ((d : Device) → call d .answer .count ≤ n) → n < 65536 → (l : Lent) → onBytes call l .answer .count < 65536
-  small n most h l = omega (arith, on-small call n most l)
-
-on-bytes : (call : Device → Result Device) → ((d : Device) → Kept d (call d)) → ((d : Device) → Kind d (call d))
-    → (n : ℕ) → ((d : Device) → call d .answer .count ≤ n) → n < 65536 → OnBytes call
-on-bytes call kept kind n most h = record { same = same call kept; any = any call kept; shaped = kind; refused = refused call kept; small = small call kept n most h }
+  on-bytes : ((d : Device) → Kind d (call d)) → (n : ℕ) → ((d : Device) → call d .answer .count ≤ n) → n < 65536 → OnBytes call
+  on-bytes kind n most h = record {
+    same = λ m frames s g. same-on m frames s g call;
+    shaped = kind;
+    refused = refused;
+    small = λ l. omega (arith, on-small call n most l);
+  }
 
 -- ---- reads and looks
 
-module _ (P f position : ℕ) (m : Media) (frames : List ℕ) (s : CacheState) (h : Shaped s) where
-  reading : (buffer : List ℕ) → readBytes P f position buffer (lent m frames (encode s)) ≡ read P f position buffer (deviceOf m frames s)
-  unfolding readBytes stateShape
-  reading buffer = rw (eq-eqb (length (encode s)) stateBytes (length-encode s h), inverse .there-and-back s h)
-
-  counting : lookCountBytes P f position (lent m frames (encode s)) ≡ lookCount P f position (deviceOf m frames s)
-  unfolding lookCountBytes stateShape
-  counting = rw (eq-eqb (length (encode s)) stateBytes (length-encode s h), inverse .there-and-back s h)
-
-  looking : lookWord P f position (lent m frames (encode s)) ≡ spanWord (lookSpan P f position (deviceOf m frames s))
-  unfolding lookWord
-  looking = rw (eq-eqb (length (encode s)) stateBytes (length-encode s h), inverse .there-and-back s h)
-
--- on any bytes
-module _ (P f position : ℕ) (l : Lent) where
-  read-left : (buffer : List ℕ) → readBytes P f position buffer l .answer .number ≢ 0 → readBytes P f position buffer l .left ≡ buffer
-  unfolding readBytes stateShape
-  read-left buffer n =
-      cases (eqb (length (l .state)) stateBytes)
-      (λ e.
-      rw e
-      (read-by P f position buffer (deviceIn l) (λ r. r .answer .number ≢ 0 → r .left ≡ buffer) (λ k lo hi z. refl) (λ ok z. absurd (z refl)) (rw e at n)))
-      (λ e. rw e)
-
-  read-fits : fileBytes P < 65536 → (buffer : List ℕ) → readBytes P f position buffer l .answer .count < 65536
-  unfolding readBytes stateShape
-  read-fits h buffer =
-      cases (eqb (length (l .state)) stateBytes)
-      (λ e. rw e (omega (arith, read-small P f position buffer (deviceIn l))))
-      (λ e. rw e (omega arith))
-
-  count-fits : lookCountBytes P f position l .count < 65536
-  unfolding lookCountBytes stateShape
-  count-fits =
-      cases (eqb (length (l .state)) stateBytes)
-      (λ e. rw e (omega (arith, look-small P f position (deviceIn l))))
-      (λ e. rw e (omega arith))
-
-span-fits : (P f position : ℕ) (d : Device) → lookSpan P f position d .count < 65536
-span-fits P f position d = let w = span-within P f position d (lookSpan P f position d) refl in omega (arith, w .count-most)
+read-left : (P f position : ℕ) (buffer : List ℕ) (l : Lent) → readBytes P f position buffer l .answer .number ≢ 0 → readBytes P f position buffer l .left ≡ buffer
+unfolding readBytes stateShape
+read-left P f position buffer l n =
+    cases (eqb (length (l .state)) stateBytes)
+    (λ e.
+    rw e
+    (read-by P f position buffer (deviceIn l) (λ r. r .answer .number ≢ 0 → r .left ≡ buffer) (λ k lo hi z. refl) (λ ok z. absurd (z refl)) (rw e at n)))
+    (λ e. rw e)
 
 abbrev span : Bool → ℕ → ℕ → Span
 span x a b = record { cached = x; from = a; count = b }
@@ -136,13 +111,13 @@ linked P h = record {
       (P + 2) (λ d. sync-small P f budget d) (omega arith);
   mounting = λ budget. on-bytes (mount P budget) (λ d. mount-kept P d budget) (λ d. mount-shaped P d budget) files (λ d. mount-small P budget d) (omega arith);
   formatting = λ budget. on-bytes (format P budget) (λ d. format-kept P d budget) (λ d. format-shaped P d budget) files (λ d. format-small P budget d) (omega arith);
-  reading = λ f position buffer m frames s g. reading P f position m frames s g buffer;
-  counting = counting P;
-  looking = looking P;
-  read-refused = λ f position buffer l. read-left P f position l buffer;
-  read-small = λ f position buffer l. read-fits P f position l h buffer;
-  count-small = count-fits P;
-  span-small = span-fits P;
+  reading = λ m frames s g. same-read m frames s g P;
+  counting = λ m frames s g. same-count m frames s g P;
+  looking = λ m frames s g. same-span m frames s g P;
+  read-refused = read-left P;
+  read-small = λ f position buffer l. omega (arith, read-small P f position l buffer);
+  count-small = λ f position l. omega (arith, look-small P f position l);
+  span-small = λ f position l. omega (arith, span-small P f position l .1);
   spans = spans;
   words = words;
 }

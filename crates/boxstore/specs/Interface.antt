@@ -5,16 +5,14 @@ use mathlib.Core.List.{List, [], _∷_}
 use lib.Dec.{eqb}
 use lib.ListN.{length, getD}
 use Rattle.answer.specs.Coded.{Coded, done, SHAPE}
-use Rattle.answer.specs.Admission.{test, firstRefusal}
+use Rattle.answer.specs.Admission.{test}
 use Rattle.device.specs.declared.FileSizes.{FileSizes}
 use Rattle.device.specs.declared.Span.{Span}
 use Rattle.device.specs.Device.{downState}
 use Rattle.device.specs.Admission.{Result, give, admit}
 use Rattle.device.specs.Sizes.{sizesAnswer, sizesAfter}
-use Rattle.device.specs.Reading.{read}
-use Rattle.device.specs.Looking.{lookCount, lookSpan}
-use Rattle.state_bytes.specs.Encoding.{stateBytes, encode}
-use Rattle.state_bytes.specs.InPlace.{Lent, deviceIn, stateShape}
+use Rattle.state_bytes.specs.Encoding.{encode}
+use Rattle.state_bytes.specs.InPlace.{stateShape}
 
 -- ---- answers
 
@@ -33,20 +31,9 @@ reply w x = record { word = w; left = x }
 abbrev pub inWord : {A : Type 0} → Result A → Reply A
 inWord r = reply (wordOf (r .answer)) (r .left)
 
--- ---- reads and looks, on a device whose state is lent as bytes; InPlace of state_bytes has the calls that change it (onBytes)
-
-unfoldable pub readBytes : ℕ → ℕ → ℕ → List ℕ → Lent → Result (List ℕ)
-readBytes P f position buffer l = admit (stateShape (l .state)) buffer (read P f position buffer (deviceIn l))
-
-unfoldable pub lookCountBytes : ℕ → ℕ → ℕ → Lent → Coded
-lookCountBytes P f position l = firstRefusal (stateShape (l .state)) (lookCount P f position (deviceIn l))
-
 -- where a look's part lies, in one word: offset, source (1 for the page frames, 0 for the media) and count; 0 on a refusal
 abbrev pub spanWord : Span → ℕ
 spanWord s = 4294967296 * s .from + 65536 * cond (s .cached) 1 0 + s .count
-
-unfoldable pub lookWord : ℕ → ℕ → ℕ → Lent → ℕ
-lookWord P f position l = cond (eqb (length (l .state)) stateBytes) (spanWord (lookSpan P f position (deviceIn l))) 0
 
 -- ---- the down state
 

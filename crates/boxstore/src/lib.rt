@@ -17,8 +17,8 @@ ghost use Rattle.device.specs.Writing.{write};
 ghost use Rattle.device.specs.Truncating.{truncate};
 ghost use Rattle.device.specs.Syncing.{sync};
 ghost use Rattle.device.specs.Mounting.{mount, format};
-ghost use Rattle.state_bytes.specs.InPlace.{lent, onBytes};
-ghost use Rattle.boxstore.specs.Interface.{wordOf, reply, inWord, readBytes, lookCountBytes, spanWord, lookWord, downBytes, truncateSizes};
+ghost use Rattle.state_bytes.specs.InPlace.{lent, onBytes, readBytes, lookCountBytes, lookSpanBytes};
+ghost use Rattle.boxstore.specs.Interface.{wordOf, reply, inWord, spanWord, downBytes, truncateSizes};
 
 // SHAPE as a word.
 const SHAPE: u32 = 131072;
@@ -41,7 +41,7 @@ pub extern "C" fn boxstore_down(state: &mut [u8]) -> u32
     if state.len() != state_bytes::STATE_BYTES {
         return SHAPE;
     }
-    state_bytes::encode(cache_state::down_state(), state);
+    state_bytes::encode(device::down_state(), state);
     0
 }
 
@@ -87,9 +87,6 @@ pub extern "C" fn boxstore_read(
     ensures { λ r. ⌜ reply r (now (buffer .exit))
         ≡ inWord (readBytes pagesPerFile file position (now (buffer .entry)) (lent (mediaOf (now (media .entry)) (now (sizes .entry))) (now (frames .entry)) (now (state .entry)))) ⌝ }
 {
-    if state.len() != state_bytes::STATE_BYTES {
-        return SHAPE;
-    }
     answer_word(reading::read(media, sizes, frames, state, file, position, buffer))
 }
 
@@ -107,9 +104,6 @@ pub extern "C" fn boxstore_write(
     ensures { λ r. ⌜ reply r (lent (mediaOf (now (media .entry)) (now (sizes .entry))) (now (frames .exit)) (now (state .exit)))
         ≡ inWord (onBytes (write pagesPerFile file position (now (bytes .entry))) (lent (mediaOf (now (media .entry)) (now (sizes .entry))) (now (frames .entry)) (now (state .entry)))) ⌝ }
 {
-    if state.len() != state_bytes::STATE_BYTES {
-        return SHAPE;
-    }
     answer_word(writing::write(media, sizes, frames, state, file, position, bytes))
 }
 
@@ -126,9 +120,6 @@ pub extern "C" fn boxstore_truncate(
     ensures { λ r. ⌜ reply r (lent (mediaOf (now (media .entry)) (now (sizes .entry))) (now (frames .exit)) (now (state .exit)))
         ≡ inWord (onBytes (truncate pagesPerFile file n) (lent (mediaOf (now (media .entry)) (now (sizes .entry))) (now (frames .entry)) (now (state .entry)))) ⌝ }
 {
-    if state.len() != state_bytes::STATE_BYTES {
-        return SHAPE;
-    }
     answer_word(writing::truncate(media, sizes, frames, state, file, n))
 }
 
@@ -145,9 +136,6 @@ pub extern "C" fn boxstore_sync(
     ensures { λ r. ⌜ reply r (lent (mediaOf (now (media .exit)) (now (sizes .exit))) (now (frames .entry)) (now (state .exit)))
         ≡ inWord (onBytes (sync pagesPerFile file budget) (lent (mediaOf (now (media .entry)) (now (sizes .entry))) (now (frames .entry)) (now (state .entry)))) ⌝ }
 {
-    if state.len() != state_bytes::STATE_BYTES {
-        return SHAPE;
-    }
     answer_word(writeback::sync(media, sizes, frames, state, file, budget))
 }
 
@@ -163,9 +151,6 @@ pub extern "C" fn boxstore_look_count(
 ) -> u32
     ensures { λ r. ⌜ r ≡ wordOf (lookCountBytes pagesPerFile file position (lent (mediaOf (now (media .entry)) (now (sizes .entry))) (now (frames .entry)) (now (state .entry)))) ⌝ }
 {
-    if state.len() != state_bytes::STATE_BYTES {
-        return SHAPE;
-    }
     answer_word(reading::look_count(media, sizes, frames, state, file, position))
 }
 
@@ -192,11 +177,8 @@ pub extern "C" fn boxstore_look(
     file: usize,
     position: usize,
 ) -> u64
-    ensures { λ r. ⌜ r ≡ lookWord pagesPerFile file position (lent (mediaOf (now (media .entry)) (now (sizes .entry))) (now (frames .entry)) (now (state .entry))) ⌝ }
+    ensures { λ r. ⌜ r ≡ spanWord (lookSpanBytes pagesPerFile file position (lent (mediaOf (now (media .entry)) (now (sizes .entry))) (now (frames .entry)) (now (state .entry)))) ⌝ }
 {
-    if state.len() != state_bytes::STATE_BYTES {
-        return 0;
-    }
     span_word(reading::look_span(media, sizes, frames, state, file, position))
 }
 

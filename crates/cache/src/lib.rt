@@ -1,17 +1,18 @@
-// The calls of the store, with the cache state by value: it goes in, and comes back from each call that can change it.
+// The calls of the store, with the cache state by value: it goes in, and comes back beside the answer. The answer of a look is a call
+// of its own, `look_count`.
 //
 // A call borrows the media (bytes and stored sizes), the page frames, and buffers of its own. Start with `down_state` and a mount.
 // The calls work on the bytes of the state (crates reading, writing and writeback), for callers that keep it so; here these bytes
 // are made and read.
 pub use answer::Answer;
 pub use answer::Refusal;
-pub use cache_state::down_state;
 pub use device::CacheState;
 pub use device::FileSizes;
 pub use device::Outcome;
 pub use device::SLOTS;
 pub use device::Slot;
 pub use device::Span;
+pub use device::down_state;
 pub use media::FILES;
 pub use media::PAGE_BYTES;
 pub use media::PAGES_PER_FILE;
@@ -55,12 +56,14 @@ pub fn read(
     file: usize,
     position: usize,
     buffer: &mut [u8],
-) -> Answer
-    ensures { λ r. ⌜ give (coded r) (now (buffer .exit))
-        ≡ read pagesPerFile file position (now (buffer .entry)) (deviceOf (mediaOf (now (media .entry)) (now (sizes .entry))) (now (frames .entry)) cache) ⌝ }
+) -> Outcome
+    ensures { λ r. ⌜ (give (coded (r .answer)) (now (buffer .exit))
+        ≡ read pagesPerFile file position (now (buffer .entry)) (deviceOf (mediaOf (now (media .entry)) (now (sizes .entry))) (now (frames .entry)) cache))
+        × (r .cache ≡ cache) ⌝ }
 {
     let state = bytes_of(cache);
-    reading::read(media, sizes, frames, &state, file, position, buffer)
+    let answer = reading::read(media, sizes, frames, &state, file, position, buffer);
+    Outcome { answer, cache }
 }
 
 // Where a look's part lies: in the page frames, or in the media where the page is not cached. It goes from the position to the end
@@ -110,11 +113,14 @@ pub fn look_count(
     cache: CacheState,
     file: usize,
     position: usize,
-) -> Answer
-    ensures { λ r. ⌜ coded r ≡ lookCount pagesPerFile file position (deviceOf (mediaOf (now (media .entry)) (now (sizes .entry))) (now (frames .entry)) cache) ⌝ }
+) -> Outcome
+    ensures { λ r. ⌜ (coded (r .answer)
+        ≡ lookCount pagesPerFile file position (deviceOf (mediaOf (now (media .entry)) (now (sizes .entry))) (now (frames .entry)) cache))
+        × (r .cache ≡ cache) ⌝ }
 {
     let state = bytes_of(cache);
-    reading::look_count(media, sizes, frames, &state, file, position)
+    let answer = reading::look_count(media, sizes, frames, &state, file, position);
+    Outcome { answer, cache }
 }
 
 // Write: puts the bytes down page by page, ascending, until a page has no slot, and answers how many: fewer than asked where all

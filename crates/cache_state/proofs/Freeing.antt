@@ -18,13 +18,10 @@ use Rattle.device.specs.declared.Slot.{Slot}
 use Rattle.device.specs.declared.CacheState.{CacheState}
 use Rattle.device.specs.Device.{slotCount, freeSlot, freeWhere, withSlots}
 use Rattle.device.specs.Truncating.{pagesFrom}
-use Rattle.device.specs.Syncing.{pagesOf}
-use Rattle.device.proofs.Syncing.{free-all}
 use Rattle.state_bytes.specs.Encoding.{stateBytes, slotsAt, slotBytes, encode, decode, elementSet, slotSet, zerosFrom, eightFree}
-use Rattle.state_bytes.specs.InPlace.{IsEncoded}
-use Rattle.state_bytes.specs.Inverse.{Shaped}
+use Rattle.state_bytes.specs.Inverse.{Shaped, AreBytes}
 use Rattle.state_bytes.proofs.Inverse.{inverse}
-use Rattle.state_bytes.proofs.InPlace.{shaped, decode-is, slot-read, slot-set}
+use Rattle.state_bytes.proofs.InPlace.{shaped, changed, slot-read, slot-set}
 use Rattle.state_bytes.proofs.Zeros.{zeros-at}
 use Rattle.cache_state.specs.Freeing.{isFrom, freedSlots}
 
@@ -131,16 +128,12 @@ module _ (f n : ℕ) (s : CacheState) (h : Shaped s) where
       freed-steps slotCount (omega arith)
       ∙ ap (λ (l : List Slot). encode (withSlots s l)) (map-done (freeWhere (pagesFrom f n)) slotCount (s .slots) (omega (arith, h .slots)))
 
--- all pages of a file are freed
-pub freed-all-encoded : (f : ℕ) (s : CacheState) → Shaped s → freedSlots f 0 slotCount (encode s) ≡ encode (withSlots s (map (freeWhere (pagesOf f)) (s .slots)))
-freed-all-encoded f s h = freed-encoded f 0 s h ∙ ap (λ (l : List Slot). encode (withSlots s l)) (free-all f (s .slots))
-
--- in bytes that are encoded
-module _ (f n : ℕ) (bytes : List ℕ) (e : IsEncoded bytes) where
+-- in any bytes
+module _ (f n : ℕ) (bytes : List ℕ) (e : length bytes ≡ stateBytes) (small : AreBytes bytes) where
   pub freed-changed : (after : List ℕ) → after ≡ freedSlots f n slotCount bytes
-      → (decode after ≡ withSlots (decode bytes) (map (freeWhere (pagesFrom f n)) (decode bytes .slots))) × IsEncoded after
-  freed-changed after q =
+      → decode after ≡ withSlots (decode bytes) (map (freeWhere (pagesFrom f n)) (decode bytes .slots))
+  freed-changed =
       let h : Shaped (decode bytes) = shaped bytes in
-      decode-is bytes e after (withSlots (decode bytes) (map (freeWhere (pagesFrom f n)) (decode bytes .slots)))
+      changed bytes e small (freedSlots f n slotCount) (withSlots (decode bytes) (map (freeWhere (pagesFrom f n)) (decode bytes .slots)))
       (record { slots = length-map (decode bytes .slots) (freeWhere (pagesFrom f n)) ∙ h .slots; logical = h .logical; floor = h .floor })
-      (q ∙ ap (λ (b : List ℕ). freedSlots f n slotCount b) (sym e) ∙ freed-encoded f n (decode bytes) h)
+      (freed-encoded f n (decode bytes) h)

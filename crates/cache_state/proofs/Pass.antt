@@ -1,28 +1,27 @@
 -- One pass over the slots in the bytes of a state: what the table has after the first k of them.
-use mathlib.Core.Path.{_≡_, refl, sym, ap, _∙_}
+use mathlib.Core.Path.{_≡_, refl, sym, _∙_}
 use mathlib.Core.Logic.{_≢_}
-use mathlib.Core.Bool.{Bool, true, false, cond, _&&_}
+use mathlib.Core.Bool.{true, false, cond, _&&_}
 use mathlib.Core.List.{List}
 use Prim.Native.Nat.{ℕ, zero, suc, _+_, _*_, _/_, _%_, _<_, _≤_}
-use native.Mathlib.Nat.{not-suc-le-zero, le-of-suc-le-suc, add-zero}
-use native.Mathlib.Numerals.{add-one}
+use native.Mathlib.Nat.{not-suc-le-zero, add-zero}
 use native.Mathlib.Omega.{arith}
 use lib.Dec.{ltb, leb, eqb}
-use lib.ListN.{length, getD, set, length-set, length-replicate, getD-replicate, List·getD-eq-default}
+use lib.ListN.{length, getD, set, length-set, length-replicate, getD-replicate}
 use lib.Seq.{ext-getD, getD-set-same, getD-set-other}
-use borrow.Author.Tests.{ltb-true, ltb-false, lt-ltb, le-ltb, eq-eqb, ne-eqb, le-leb, lt-leb, eqb-true}
+use borrow.Author.Tests.{ltb-true, lt-ltb, le-ltb, eq-eqb, ne-eqb}
 use Rattle.memory.proofs.Cases.{split-lt, split-eq}
 use Rattle.media.specs.Geometry.{files, pagesPerFile}
-use Rattle.scan.specs.Scan.{every, everyBelow, firstIndex}
+use Rattle.scan.specs.Scan.{every, firstIndex}
 use Rattle.scan.proofs.Scan.{and-left, and-right, is-false, true-not-false, first-le, first-passes, first-before, everyBelow-at, everyBelow-all, every-at, every-all}
 use Rattle.device.specs.declared.Slot.{Slot}
-use Rattle.device.specs.Device.{slotCount, freeSlot, holds}
+use Rattle.device.specs.Device.{slotCount, freeSlot, usedSlot, isUsed, holds}
 use Rattle.device.specs.Sound.{inRange, holdsAlone}
 use Rattle.device.proofs.Device.{holds-own, holds-one}
-use Rattle.state_bytes.specs.Encoding.{stateBytes, slotsAt, slotIn, slotsIn, isState, eightFree}
+use Rattle.state_bytes.specs.Encoding.{stateBytes, slotsAt, slotIn, slotsIn, eightFree}
 use Rattle.state_bytes.proofs.Encoding.{length-each, getD-each}
 use Rattle.state_bytes.proofs.Zeros.{zeros-at}
-use Rattle.cache_state.specs.Tables.{noneCached, slotTable, slotFor, slotsPass, slotBelow, Passed}
+use Rattle.cache_state.specs.Tables.{noneCached, slotTable, slotFor, slotsPass, Passed}
 
 -- ---- the table of all slots
 
@@ -49,7 +48,7 @@ same-place : (f p g q : ℕ) → p < pagesPerFile → q < pagesPerFile → pages
 same-place f p g q hp hq e = (omega arith, omega arith)
 
 -- what a slot in range names
-pub range-is : (s : Slot) → inRange pagesPerFile s ≡ true → s .used ≡ true → (s .file < files) × (s .page < pagesPerFile)
+pub range-is : (s : Slot) → inRange pagesPerFile s ≡ true → isUsed s ≡ true → (s .file < files) × (s .page < pagesPerFile)
 unfolding inRange
 range-is s e u =
     let r : ltb (s .file) files && ltb (s .page) pagesPerFile ≡ true = rw u at e in
@@ -77,7 +76,6 @@ module _ (bytes : List ℕ) where
   pub passed-none : Passed bytes noneCached 0
   unfolding noneCached
   passed-none = record {
-    flags = λ i h. absurd (not-suc-le-zero h);
     named = λ i h. absurd (not-suc-le-zero h);
     alone = λ i h. absurd (not-suc-le-zero h);
     entry = λ f p hf hp. getD-replicate (files * pagesPerFile) (pagesPerFile * f + p) slotCount 0 (omega arith)
@@ -88,10 +86,9 @@ module _ (bytes : List ℕ) where
   -- all slots pass
   module _ (table : List ℕ) (x : Passed bytes table slotCount) where
     pub passed-all : slotsPass bytes ≡ true
-    unfolding slotsPass isState
+    unfolding slotsPass
     passed-all =
         rw (
-          everyBelow-all slotCount (λ i. leb (getD bytes (slotsAt + 3 * i) 0) 1) (x .flags),
           every-all (inRange pagesPerFile) slots freeSlot (λ i h. x .named i (rw count at h)),
           everyBelow-all slotCount (holdsAlone slots) (x .alone),
         )
@@ -111,33 +108,18 @@ module _ (bytes : List ℕ) where
 
   -- slot k is looked at
   module _ (table : List ℕ) (k : ℕ) (x : Passed bytes table k) (hk : k < slotCount) where
-    pub flag-fails : 1 < getD bytes (slotsAt + 3 * k) 0 → slotsPass bytes ≡ false
-    unfolding slotsPass isState
-    flag-fails h =
-        is-false (slotsPass bytes)
-        (λ t.
-        true-not-false (leb (getD bytes (slotsAt + 3 * k) 0) 1)
-        (everyBelow-at slotCount (λ i. leb (getD bytes (slotsAt + 3 * i) 0) 1) (and-left (isState bytes) _ t) k hk)
-        (lt-leb (getD bytes (slotsAt + 3 * k) 0) 1 h))
-
     pub range-fails : inRange pagesPerFile (slotIn bytes (slotsAt + 3 * k)) ≡ false → slotsPass bytes ≡ false
     unfolding slotsPass
     range-fails e =
         is-false (slotsPass bytes)
         (λ t.
         true-not-false (inRange pagesPerFile (getD slots k freeSlot))
-        (every-at (inRange pagesPerFile) slots freeSlot (and-left (every (inRange pagesPerFile) slots) _ (and-right (isState bytes) _ t)) k (omega (arith, count)))
+        (every-at (inRange pagesPerFile) slots freeSlot (and-left (every (inRange pagesPerFile) slots) _ t) k (omega (arith, count)))
         (rw (slot-is k hk) e))
 
-    module _ (flag : getD bytes (slotsAt + 3 * k) 0 ≤ 1) (s : Slot) (es : slotIn bytes (slotsAt + 3 * k) ≡ s) (r : inRange pagesPerFile s ≡ true) where
+    module _ (s : Slot) (es : slotIn bytes (slotsAt + 3 * k) ≡ s) (r : inRange pagesPerFile s ≡ true) where
       here : getD slots k freeSlot ≡ s
       here = slot-is k hk ∙ es
-
-      flags-next : (i : ℕ) → i < k + 1 → leb (getD bytes (slotsAt + 3 * i) 0) 1 ≡ true
-      flags-next i h =
-          split-eq i k
-          (λ e. rw e (le-leb (getD bytes (slotsAt + 3 * k) 0) 1 flag))
-          (λ ne. x .flags i (omega arith))
 
       named-next : (i : ℕ) → i < k + 1 → inRange pagesPerFile (getD slots i freeSlot) ≡ true
       named-next i h = split-eq i k (λ e. rw (e, here) r) (λ ne. x .named i (omega arith))
@@ -150,17 +132,16 @@ module _ (bytes : List ℕ) where
       not-here f p e q =
           true-not-false (holds f p s) (rw (q, here) at (first-passes (holds f p) slots freeSlot (omega (arith, count)))) e
 
-      pub passed-free : s .used ≡ false → Passed bytes table (k + 1)
+      pub passed-free : isUsed s ≡ false → Passed bytes table (k + 1)
       unfolding holdsAlone
       passed-free u = record {
-        flags = flags-next;
         named = named-next;
         alone = alone-next (rw (here, u));
         entry = λ f p hf hp. x .entry f p hf hp ∙ rw (below-next (firstIndex (holds f p) slots) k (not-here f p (rw u)));
         places = x .places;
       }
 
-      module _ (u : s .used ≡ true) where
+      module _ (u : isUsed s ≡ true) where
         own : firstIndex (holds (s .file) (s .page)) slots ≤ k
         own = first-before (holds (s .file) (s .page)) slots freeSlot k (omega (arith, count)) (rw here (holds-own (s .file) (s .page) s u refl refl))
 
@@ -178,7 +159,7 @@ module _ (bytes : List ℕ) where
             is-false (slotsPass bytes)
             (λ t.
             true-not-false (holdsAlone slots k)
-            (everyBelow-at slotCount (holdsAlone slots) (and-right (every (inRange pagesPerFile) slots) _ (and-right (isState bytes) _ t)) k hk)
+            (everyBelow-at slotCount (holdsAlone slots) (and-right (every (inRange pagesPerFile) slots) _ t) k hk)
             (rw (here, u) (ne-eqb first k (λ q. omega arith)))))
             (λ h. absurd (ne (x .entry (s .file) (s .page) (n .0) (n .1) ∙ rw (le-ltb first k h))))
 
@@ -190,7 +171,6 @@ module _ (bytes : List ℕ) where
             let h : k ≤ first = split-lt first k (λ l. absurd (full first l (sym (rw (lt-ltb first k l) at (x .entry (s .file) (s .page) (n .0) (n .1))) ∙ e))) (λ l. l) in
             let q : first ≡ k = omega (arith, own) in
             record {
-              flags = flags-next;
               named = named-next;
               alone = alone-next (rw (here, u) (eq-eqb first k q));
               entry = λ f p hf hp.
@@ -213,7 +193,7 @@ module _ (bytes : List ℕ) where
   unfolding inRange
   blank table k x hk a b c =
       let e : slotIn bytes (slotsAt + 3 * k) ≡ freeSlot = rw (a, b, c) in
-      passed-free table k x hk (omega arith) freeSlot e refl refl
+      passed-free table k x hk freeSlot e refl refl
 
   -- slot k by its three bytes
   module _ (table : List ℕ) (k : ℕ) (x : Passed bytes table k) (hk : k < slotCount) where
@@ -226,24 +206,21 @@ module _ (bytes : List ℕ) where
     abbrev page : ℕ
     page = getD bytes (at + 2) 0
 
-    abbrev here-slot : Bool → Slot
-    here-slot b = record { used = b; file = file; page = page }
-
     module _ (u : getD bytes at 0 ≡ 1) where
-      used : slotIn bytes at ≡ here-slot true
+      used : slotIn bytes at ≡ usedSlot file page
       used = rw u
 
       module _ (hf : file < files) where
         module _ (hp : page < pagesPerFile) where
-          ranged : inRange pagesPerFile (here-slot true) ≡ true
+          ranged : inRange pagesPerFile (usedSlot file page) ≡ true
           unfolding inRange
           ranged = rw (lt-ltb file files hf, lt-ltb page pagesPerFile hp)
 
           pub find-used : getD table (pagesPerFile * file + page) 0 ≡ slotCount → Passed bytes (set table (pagesPerFile * file + page) k) (k + 1)
-          find-used e = passed-used table k x hk (omega arith) (here-slot true) used ranged refl e
+          find-used e = passed-used table k x hk (usedSlot file page) used ranged refl e
 
           pub find-twice : getD table (pagesPerFile * file + page) 0 ≢ slotCount → slotsPass bytes ≡ false
-          find-twice ne = passed-twice table k x hk (omega arith) (here-slot true) used ranged refl ne
+          find-twice ne = passed-twice table k x hk (usedSlot file page) used ranged refl ne
 
         pub find-page : pagesPerFile ≤ page → slotsPass bytes ≡ false
         unfolding inRange
@@ -264,8 +241,9 @@ module _ (bytes : List ℕ) where
     unfolding inRange
     find-carried-page u ef ne = range-fails table k x hk (rw (u, eq-eqb file 0 ef, ne-eqb page 0 ne))
 
-    pub find-flag : getD bytes at 0 ≢ 1 → getD bytes at 0 ≢ 0 → slotsPass bytes ≡ false
-    find-flag n m = flag-fails table k x hk (omega arith)
+    pub find-mark : getD bytes at 0 ≢ 1 → getD bytes at 0 ≢ 0 → slotsPass bytes ≡ false
+    unfolding inRange
+    find-mark n m = range-fails table k x hk (rw (ne-eqb (getD bytes at 0) 1 n, ne-eqb (getD bytes at 0) 0 m))
 
   -- eight slots whose bytes are 0
   blanks : (table : List ℕ) (k m : ℕ) → Passed bytes table k → k + m ≤ slotCount → ((i : ℕ) → i < 3 * m → getD bytes (slotsAt + 3 * k + i) 0 ≡ 0) → Passed bytes table (k + m)

@@ -1,14 +1,12 @@
 -- Sound bytes: the tests of the code beside those of the definition.
-use mathlib.Core.Path.{_≡_, refl, sym, ap, _∙_}
+use mathlib.Core.Path.{_≡_, refl, sym, _∙_}
 use mathlib.Core.Logic.{_≢_}
-use mathlib.Core.Bool.{Bool, true, false, _&&_, and-true}
+use mathlib.Core.Bool.{Bool, true, false, and-true}
 use mathlib.Core.List.{List}
-use Prim.Native.Nat.{ℕ, _≤_, _<_}
+use Prim.Native.Nat.{ℕ, _<_}
 use native.Mathlib.Omega.{arith}
-use lib.Dec.{eqb}
 use lib.ListN.{length, getD}
-use borrow.Author.Tests.{eq-eqb, ne-eqb, le-leb, lt-leb}
-use borrow.Table.Steps.{cases}
+use borrow.Author.Tests.{lt-leb}
 use Rattle.answer.specs.declared.Refusal.{Refusal}
 use Rattle.answer.specs.declared.Answer.{Answer}
 use Rattle.answer.specs.declared.Answer.the-variants.{Done}
@@ -23,10 +21,8 @@ use Rattle.device.specs.Admission.{mountedTests, stateTests}
 use Rattle.device.specs.Device.{slotCount}
 use Rattle.device.specs.Sizes.{inOrder}
 use Rattle.device.specs.Sound.{inRange, holdsAlone, sizesIn, isDown, isSound, soundTests}
-use Rattle.state_bytes.specs.Encoding.{stateBytes, slotsIn, isState, decode}
-use Rattle.state_bytes.specs.InPlace.{IsEncoded}
-use Rattle.state_bytes.proofs.Inverse.{inverse}
-use Rattle.state_bytes.proofs.InPlace.{slots-read}
+use Rattle.state_bytes.specs.Encoding.{stateBytes, slotsIn, decode}
+use Rattle.state_bytes.proofs.InPlace.{decode-lengths, mark-read, slots-read}
 use Rattle.cache_state.specs.Tables.{noneCached, slotTable, tableAfter, slotsPass}
 
 module _ (stored bytes : List ℕ) where
@@ -35,9 +31,6 @@ module _ (stored bytes : List ℕ) where
 
   abbrev ordered : Bool
   ordered = everyBelow files (λ f. inOrder (fileBytes pagesPerFile) (sizesIn stored (decode bytes) f))
-
-  pub other-length : length bytes ≢ stateBytes → false ≡ sound
-  other-length n = sym (inverse .other-length pagesPerFile stored bytes n)
 
   pub not-ordered : ordered ≡ false → false ≡ sound
   unfolding isSound soundTests
@@ -50,58 +43,40 @@ module _ (stored bytes : List ℕ) where
     unfolding slotsPass isSound soundTests
     not-passed p =
         let tests : List Bool = soundTests pagesPerFile stored (decode bytes) in
-        cases (isState bytes)
-        (λ h.
         sym
         (is-false sound
         (λ t.
-        true-not-false (every (inRange pagesPerFile) (slotsIn bytes) && everyBelow slotCount (holdsAlone (slotsIn bytes)))
+        true-not-false (slotsPass bytes)
         (and-both _ _ (rw (slots-read bytes e) at (allOf-at tests t 1)) (rw (slots-read bytes e) at (allOf-at tests t 2)))
-        (rw h at p))))
-        (λ h. sym (inverse .no-state pagesPerFile stored bytes h))
+        p))
 
     module _ (p : slotsPass bytes ≡ true) where
-      abbrev marked : Bool
-      marked = isState bytes
-
-      is-state : marked ≡ true
-      unfolding slotsPass
-      is-state = and-left marked _ p
-
-      pub mark-read : getD bytes 0 0 ≡ decode bytes .mounted
-      unfolding decode
-      mark-read = rw (eq-eqb (length bytes) stateBytes e, is-state)
-
-      -- bytes that a slice of bytes has
-      pub encoded-is : ((i : ℕ) → getD bytes i 0 < 256) → IsEncoded bytes
-      encoded-is small = inverse .back-and-there bytes e small is-state
-
       named : every (inRange pagesPerFile) (decode bytes .slots) ≡ true
       unfolding slotsPass
-      named = rw (slots-read bytes e) (and-left (every (inRange pagesPerFile) (slotsIn bytes)) _ (and-right marked _ p))
+      named = rw (slots-read bytes e) (and-left (every (inRange pagesPerFile) (slotsIn bytes)) _ p)
 
       alone : everyBelow slotCount (holdsAlone (decode bytes .slots)) ≡ true
       unfolding slotsPass
-      alone = rw (slots-read bytes e) (and-right (every (inRange pagesPerFile) (slotsIn bytes)) _ (and-right marked _ p))
+      alone = rw (slots-read bytes e) (and-right (every (inRange pagesPerFile) (slotsIn bytes)) _ p)
 
       module _ (o : ordered ≡ true) where
         pub sound-up : getD bytes 0 0 ≡ 1 → true ≡ sound
         unfolding isSound soundTests
         sound-up m =
-            let q : decode bytes .mounted ≡ 1 = sym mark-read ∙ m in
-            rw (named, alone, o, q)
+            let q : decode bytes .mounted ≡ 1 = mark-read bytes e ∙ m in
+            rw (decode-lengths bytes, named, alone, o, q)
 
         pub sound-down : getD bytes 0 0 ≡ 0 → isDown (decode bytes) ≡ sound
         unfolding isSound soundTests
         sound-down m =
-            let q : decode bytes .mounted ≡ 0 = sym mark-read ∙ m in
-            rw (named, alone, o, q, and-true)
+            let q : decode bytes .mounted ≡ 0 = mark-read bytes e ∙ m in
+            rw (decode-lengths bytes, named, alone, o, q, and-true)
 
-      pub no-mark : getD bytes 0 0 ≢ 1 → getD bytes 0 0 ≢ 0 → false ≡ sound
-      unfolding isSound soundTests
-      no-mark n m =
-          let l : 1 < decode bytes .mounted = rw (← mark-read) (omega arith) in
-          rw (lt-leb (decode bytes .mounted) 1 l)
+    pub no-mark : getD bytes 0 0 ≢ 1 → getD bytes 0 0 ≢ 0 → false ≡ sound
+    unfolding isSound soundTests
+    no-mark n m =
+        let l : 1 < decode bytes .mounted = rw (mark-read bytes e) (omega arith) in
+        rw (lt-leb (decode bytes .mounted) 1 l)
 
 -- ---- what admission leaves
 
@@ -110,9 +85,6 @@ module _ (r : Refusal) (slots : List Slot) where
   pub table-refused : noneCached ≡ tableAfter (codedRefusal r) slots
   unfolding tableAfter
   table-refused = rw (refusal-number r)
-
-  pub refused-not-done : codedRefusal r .number ≡ 0 → ⊥
-  refused-not-done e = true-not-false (eqb (codedRefusal r .number) 0) (eq-eqb _ 0 e) (refusal-number r)
 
 pub table-done : (n : ℕ) (slots : List Slot) → slotTable pagesPerFile slots ≡ tableAfter (done n) slots
 unfolding tableAfter

@@ -4,7 +4,7 @@ use Prim.Native.Nat.{ℕ, _+_, _*_, _/_, _%_, _<_}
 use mathlib.Core.Path.{_≡_}
 use mathlib.Core.Bool.{Bool, true, cond, _&&_}
 use mathlib.Core.List.{List}
-use lib.Dec.{ltb, leb}
+use lib.Dec.{ltb}
 use lib.ListN.{length, getD, replicate}
 use Rattle.answer.specs.Coded.{Coded}
 use Rattle.answer.specs.Admission.{ifDone}
@@ -13,7 +13,7 @@ use Rattle.scan.specs.Scan.{every, everyBelow, firstIndex}
 use Rattle.device.specs.declared.Slot.{Slot}
 use Rattle.device.specs.Device.{slotCount, freeSlot, holds}
 use Rattle.device.specs.Sound.{inRange, holdsAlone}
-use Rattle.state_bytes.specs.Encoding.{slotsAt, each, slotsIn, isState}
+use Rattle.state_bytes.specs.Encoding.{each, slotsIn}
 
 -- no page is cached
 unfoldable pub noneCached : List ℕ
@@ -35,7 +35,7 @@ tableAfter a slots = ifDone a (slotTable pagesPerFile slots) noneCached
 
 -- bytes whose slots are sound
 unfoldable pub slotsPass : List ℕ → Bool
-slotsPass bytes = isState bytes && (every (inRange pagesPerFile) (slotsIn bytes) && everyBelow slotCount (holdsAlone (slotsIn bytes)))
+slotsPass bytes = every (inRange pagesPerFile) (slotsIn bytes) && everyBelow slotCount (holdsAlone (slotsIn bytes))
 
 -- the slot of a page among the first k, or slotCount
 abbrev pub slotBelow : List Slot → ℕ → ℕ → ℕ → ℕ
@@ -43,7 +43,6 @@ slotBelow slots k f p = cond (ltb (firstIndex (holds f p) slots) k) (firstIndex 
 
 -- the first k slots pass, and the table has their pages
 pub record Passed (bytes table : List ℕ) (k : ℕ) : Type 0 where
-  pub flags : (i : ℕ) → i < k → leb (getD bytes (slotsAt + 3 * i) 0) 1 ≡ true
   pub named : (i : ℕ) → i < k → inRange pagesPerFile (getD (slotsIn bytes) i freeSlot) ≡ true
   pub alone : (i : ℕ) → i < k → holdsAlone (slotsIn bytes) i ≡ true
   pub entry : (f p : ℕ) → f < files → p < pagesPerFile → getD table (pagesPerFile * f + p) 0 ≡ slotBelow (slotsIn bytes) k f p

@@ -1,5 +1,5 @@
 // What every call on a file begins with, on the bytes of the cache state: the order of refusals, sound states, and the slot of each
-// page. And the states that mount and format leave.
+// page. And the state that a mount leaves.
 use answer::Answer;
 use answer::Refusal;
 use device::CacheState;
@@ -7,7 +7,7 @@ use device::FileSizes;
 use device::Slot;
 ghost use mathlib.Core.Path.{_≡_};
 ghost use mathlib.Core.Bool.{true, false, _&&_};
-ghost use mathlib.Core.List.{List};
+ghost use mathlib.Core.List.{List, _++_};
 ghost use Prim.Native.Nat.{ℕ, _+_, _<_, _≤_};
 ghost use lib.ListN.{length, getD};
 ghost use lib.Dec.{eqb, leb};
@@ -16,14 +16,14 @@ ghost use Rattle.answer.specs.Admission.{firstRefusal};
 ghost use Rattle.media.specs.Geometry.{files, fileBytes, pagesPerFile};
 ghost use Rattle.media.specs.Write.{mediaOf};
 ghost use Rattle.scan.specs.Scan.{firstIndex, every, everyBelow};
-ghost use Rattle.device.specs.Device.{deviceOf, slotCount, isFree, downState, mountedState};
+ghost use Rattle.device.specs.Device.{slotCount, isFree, mountedState};
 ghost use Rattle.device.specs.Sizes.{inOrder};
 ghost use Rattle.device.specs.Sound.{sizesIn, isDown, isSound};
 ghost use Rattle.state_bytes.specs.Encoding.{stateBytes, slotsIn, decode};
-ghost use Rattle.state_bytes.specs.InPlace.{IsEncoded};
+ghost use Rattle.state_bytes.specs.InPlace.{lent, stateShape, lentTests};
 ghost use Rattle.cache_state.specs.Freeing.{isFrom, freedSlots};
 ghost use Rattle.cache_state.specs.Tables.{noneCached, slotTable, slotFor, tableAfter, slotsPass, Passed};
-ghost use Rattle.device.specs.Admission.{mediaShape, mountedTests, stateTests, mountTests, deviceTests, fileTests};
+ghost use Rattle.device.specs.Admission.{mediaShape, mountedTests, stateTests, mountTests, deviceTests};
 
 // A slot for each page of each file.
 pub const TABLE: usize = media::FILES * media::PAGES_PER_FILE;
@@ -35,7 +35,7 @@ pub fn first_free(state: &[u8]) -> usize
     let mut k = 0;
     while k < device::SLOTS {
         let s = state_bytes::slot_at(state, k);
-        if !s.used {
+        if s.used == 0 {
             return k;
         }
         k += 1;
@@ -49,7 +49,7 @@ fn is_from(s: Slot, file: usize, n: usize) -> bool
 {
     let f = s.file as usize;
     let p = s.page as usize;
-    if s.used {
+    if s.used == 1 {
         if f == file {
             return n <= media::PAGE_BYTES * p;
         }
@@ -84,18 +84,6 @@ pub fn free_pages_from(state: &mut [u8], file: usize, n: usize)
             free_eight(state, k, file, n);
             k += 8;
         }
-    }
-}
-
-// The state while down.
-pub fn down_state() -> CacheState
-    ensures { λ r. ⌜ r ≡ downState ⌝ }
-{
-    CacheState {
-        mounted: 0,
-        slots: device::no_slots(),
-        logical: [0; media::FILES],
-        floor: [0; media::FILES],
     }
 }
 
@@ -140,7 +128,7 @@ fn slots_free(state: &[u8]) -> bool
     let mut i = 0;
     while i < device::SLOTS {
         let s = state_bytes::slot_at(state, i);
-        if s.used {
+        if s.used != 0 {
             return false;
         }
         i += 1;
@@ -189,10 +177,14 @@ fn sizes_fit(sizes: &[u32], greatest: usize) -> bool
     all
 }
 
-// SHAPE of the media, which has so many bytes: the refusals of a format.
-pub fn admit_format(media: usize, sizes: &[u32]) -> Answer
-    ensures { λ r. ⌜ ((m : List ℕ) → length m ≡ media → coded r ≡ firstRefusal (mediaShape pagesPerFile (mediaOf m (now (sizes .entry)))) (done 0)) ⌝ }
+// SHAPE of the state and of the media, which has so many bytes: the refusals of a format.
+pub fn admit_format(media: usize, sizes: &[u32], state: &[u8]) -> Answer
+    ensures { λ r. ⌜ ((m : List ℕ) → length m ≡ media
+        → coded r ≡ firstRefusal (stateShape (now (state .entry)) ++ mediaShape pagesPerFile (mediaOf m (now (sizes .entry)))) (done 0)) ⌝ }
 {
+    if state.len() != state_bytes::STATE_BYTES {
+        return Answer::Refused(Refusal::Shape);
+    }
     let file_len = media::PAGE_BYTES * media::PAGES_PER_FILE;
     if media != media::FILES * file_len {
         return Answer::Refused(Refusal::Shape);
@@ -203,11 +195,12 @@ pub fn admit_format(media: usize, sizes: &[u32]) -> Answer
     Answer::Done(0)
 }
 
-// SHAPE of the media, then MEDIA: the refusals of a mount.
-pub fn admit_mount(media: usize, sizes: &[u32]) -> Answer
-    ensures { λ r. ⌜ ((m : List ℕ) → length m ≡ media → coded r ≡ firstRefusal (mountTests pagesPerFile (mediaOf m (now (sizes .entry)))) (done 0)) ⌝ }
+// SHAPE, then MEDIA: the refusals of a mount.
+pub fn admit_mount(media: usize, sizes: &[u32], state: &[u8]) -> Answer
+    ensures { λ r. ⌜ ((m : List ℕ) → length m ≡ media
+        → coded r ≡ firstRefusal (stateShape (now (state .entry)) ++ mountTests pagesPerFile (mediaOf m (now (sizes .entry)))) (done 0)) ⌝ }
 {
-    let shape = admit_format(media, sizes);
+    let shape = admit_format(media, sizes, state);
     match shape {
         Answer::Refused(refusal) => Answer::Refused(refusal),
         Answer::Done(_) => {
@@ -219,15 +212,15 @@ pub fn admit_mount(media: usize, sizes: &[u32]) -> Answer
     }
 }
 
-// SHAPE of the media and of the page frames, then MEDIA: the first tests of the calls on a file.
-fn admit_device(media: usize, sizes: &[u32], frames: usize) -> Answer
+// SHAPE, of the page frames too, then MEDIA: the first tests of the calls on a file.
+fn admit_device(media: usize, sizes: &[u32], frames: usize, state: &[u8]) -> Answer
     ensures { λ r. ⌜ ((m f : List ℕ) → length m ≡ media → length f ≡ frames
-        → coded r ≡ firstRefusal (deviceTests pagesPerFile (mediaOf m (now (sizes .entry))) f) (done 0)) ⌝ }
+        → coded r ≡ firstRefusal (stateShape (now (state .entry)) ++ deviceTests pagesPerFile (mediaOf m (now (sizes .entry))) f) (done 0)) ⌝ }
 {
     if frames != device::SLOTS * media::PAGE_BYTES {
         return Answer::Refused(Refusal::Shape);
     }
-    admit_mount(media, sizes)
+    admit_mount(media, sizes, state)
 }
 
 // No page is cached.
@@ -334,14 +327,10 @@ fn files_in_order(sizes: &[u32], state: &[u8]) -> bool
 
 // Whether the bytes say a state that is sound beside the stored sizes. Then the table has its slots.
 fn is_sound(sizes: &[u32], state: &[u8], slots: &mut [u8; TABLE]) -> bool
-    requires { ⌜ now slots ≡ noneCached ⌝ }
+    requires { ⌜ (length (now state) ≡ stateBytes) × (now slots ≡ noneCached) ⌝ }
     ensures { λ r. ⌜ (r ≡ isSound pagesPerFile (now (sizes .entry)) (decode (now (state .entry))))
-        × (r ≡ true → (now (slots .exit) ≡ slotTable pagesPerFile ((decode (now (state .entry))) .slots)) × IsEncoded (now (state .entry))
-        × (length (now (state .entry)) ≡ stateBytes) × (getD (now (state .entry)) 0 0 ≡ (decode (now (state .entry))) .mounted)) ⌝ }
+        × (r ≡ true → now (slots .exit) ≡ slotTable pagesPerFile ((decode (now (state .entry))) .slots)) ⌝ }
 {
-    if state.len() != state_bytes::STATE_BYTES {
-        return false;
-    }
     if files_in_order(sizes, state) {
         if find_slots(state, slots) {
             let mounted = state[0];
@@ -383,9 +372,9 @@ fn admit_state(
     range: bool,
     slots: &mut [u8; TABLE],
 ) -> Answer
+    requires { ⌜ length (now state) ≡ stateBytes ⌝ }
     ensures { λ r. ⌜ (coded r ≡ firstRefusal (stateTests pagesPerFile (now (sizes .entry)) (decode (now (state .entry))) file range) (done 0))
-        × (now (slots .exit) ≡ tableAfter (coded r) ((decode (now (state .entry))) .slots))
-        × ((coded r) .number ≡ 0 → IsEncoded (now (state .entry))) ⌝ }
+        × (now (slots .exit) ≡ tableAfter (coded r) ((decode (now (state .entry))) .slots)) ⌝ }
 {
     *slots = none_cached();
     if is_sound(sizes, state, slots) {
@@ -428,11 +417,10 @@ pub fn admit(
     slots: &mut [u8; TABLE],
 ) -> Answer
     ensures { λ r. ⌜ ((m f : List ℕ) → length m ≡ media → length f ≡ frames
-        → coded r ≡ firstRefusal (fileTests pagesPerFile (deviceOf (mediaOf m (now (sizes .entry))) f (decode (now (state .entry)))) file range) (done 0))
-        × (now (slots .exit) ≡ tableAfter (coded r) ((decode (now (state .entry))) .slots))
-        × ((coded r) .number ≡ 0 → IsEncoded (now (state .entry))) ⌝ }
+        → coded r ≡ firstRefusal (lentTests pagesPerFile (lent (mediaOf m (now (sizes .entry))) f (now (state .entry))) file range) (done 0))
+        × (now (slots .exit) ≡ tableAfter (coded r) ((decode (now (state .entry))) .slots)) ⌝ }
 {
-    let admission = admit_device(media, sizes, frames);
+    let admission = admit_device(media, sizes, frames, state);
     match admission {
         Answer::Refused(refusal) => {
             *slots = none_cached();

@@ -9,13 +9,11 @@ use lib.Dec.{leb, eqb}
 use lib.ListN.{length, getD}
 use borrow.Author.Tests.{ne-eqb, eqb-true, ltb-true, leb-true, eq-eqb, lt-ltb, le-leb}
 use borrow.Table.Steps.{cases}
-use Rattle.answer.specs.Coded.{refused, LINE, SHAPE, MEDIA, BOOKS, DOWN, NO-FILE, RANGE, Coded, done, codedRefusal, coded}
-use Rattle.answer.proofs.Admission.{passed, passed-at, Changeless, answer-passed}
+use Rattle.answer.specs.Coded.{refused, LINE, SHAPE, MEDIA, BOOKS, DOWN, NO-FILE, RANGE, Coded, done, codedRefusal}
+use Rattle.answer.proofs.Admission.{passed, passed-at, Changeless, refusing}
 use Rattle.answer.specs.Admission.{Test, test, firstRefusal}
-use Rattle.answer.proofs.Coded.{refusal-number, coded-of}
+use Rattle.answer.proofs.Coded.{refusal-number}
 use Rattle.answer.specs.declared.Refusal.{Refusal}
-use Rattle.answer.specs.declared.Answer.{Answer}
-use Rattle.answer.specs.declared.Answer.the-variants.{Done, Refused}
 use Rattle.media.specs.Geometry.{files, fileBytes, mediaBytes}
 use Rattle.media.specs.Write.{Media}
 use Rattle.scan.specs.Scan.{every}
@@ -79,6 +77,10 @@ module _ (P : ℕ) (d : Device) where
   unfolding mediaShape framesShape sizesFit stateTests
   file-changeless f range us e = ((2, omega arith, λ e. (omega arith), refl), ((2, omega arith, λ e. (omega arith), refl), ((2, omega arith, λ e. (omega arith), refl), ((3, omega arith, λ e. (omega arith), refl), ((4, omega arith, λ e. (omega arith), refl), ((5, omega arith, λ e. (omega arith), refl), ((6, omega arith, λ e. (omega arith), refl), ((7, omega arith, λ e. (omega arith), refl), e))))))))
 
+  pub file-refusing : (f : ℕ) (range : Bool) → refusing (fileTests P d f range) ≡ true
+  unfolding mediaShape framesShape sizesFit stateTests
+  file-refusing f range = refl
+
   pub file-admitted : (f : ℕ) (range : Bool) → passed (fileTests P d f range) ≡ true → Admitted f range
   unfolding mediaShape framesShape sizesFit stateTests
   file-admitted f range e =
@@ -127,6 +129,10 @@ module _ (P : ℕ) (d : Device) where
   unfolding mediaShape
   shape-changeless = ((2, omega arith, λ e. (omega arith), refl), ((2, omega arith, λ e. (omega arith), refl), tt))
 
+  pub shape-refusing : refusing (mediaShape P (d .media)) ≡ true
+  unfolding mediaShape
+  shape-refusing = refl
+
   pub shape-admitted : passed (mediaShape P (d .media)) ≡ true → (length (d .media .bytes) ≡ mediaBytes P) × (length (d .media .sizes) ≡ files)
   unfolding mediaShape
   shape-admitted e = (eqb-true _ _ (passed-at (mediaShape P (d .media)) e 0), eqb-true _ _ (passed-at (mediaShape P (d .media)) e 1))
@@ -134,6 +140,10 @@ module _ (P : ℕ) (d : Device) where
   pub mount-changeless : Changeless (mountTests P (d .media))
   unfolding mediaShape sizesFit
   mount-changeless = ((2, omega arith, λ e. (omega arith), refl), ((2, omega arith, λ e. (omega arith), refl), ((3, omega arith, λ e. (omega arith), refl), tt)))
+
+  pub mount-refusing : refusing (mountTests P (d .media)) ≡ true
+  unfolding mediaShape sizesFit
+  mount-refusing = refl
 
   pub mount-admitted : passed (mountTests P (d .media)) ≡ true → Mountable
   unfolding mediaShape sizesFit
@@ -149,29 +159,6 @@ module _ (P : ℕ) (d : Device) where
   pub mount-passes : Mountable → passed (mountTests P (d .media)) ≡ true
   unfolding mediaShape sizesFit
   mount-passes x = rw (eq-eqb _ _ (x .bytes), eq-eqb _ _ (x .sizes), fits-all (x .sizes) (x .fit))
-
--- the calls on a file: what the answer of `admit` in the code says
-module _ (P : ℕ) (d : Device) (f : ℕ) (range : Bool) (a : Answer) (e : coded a ≡ firstRefusal (fileTests P d f range) (done 0)) where
-  pub file-passed : (k : ℕ) → a ≡ Done k → passed (fileTests P d f range) ≡ true
-  unfolding mediaShape framesShape sizesFit stateTests
-  file-passed k q = answer-passed (fileTests P d f range) a k refl e q
-
-  pub file-refused : (x : Refusal) → a ≡ Refused x → codedRefusal x ≡ firstRefusal (fileTests P d f range) (done 0)
-  file-refused x q = coded-of a (Refused x) _ q e
-
-  -- its facts
-  pub file-ready : (k : ℕ) → a ≡ Done k → Admitted P d f range
-  file-ready k q = file-admitted P d f range (file-passed k q)
-
--- the answer of the code to a mount or a format
-module _ (P : ℕ) (m : Media) (a : Answer) where
-  pub mount-passed : coded a ≡ firstRefusal (mountTests P m) (done 0) → (k : ℕ) → a ≡ Done k → passed (mountTests P m) ≡ true
-  unfolding mediaShape sizesFit
-  mount-passed e k q = answer-passed (mountTests P m) a k refl e q
-
-  pub shape-passed : coded a ≡ firstRefusal (mediaShape P m) (done 0) → (k : ℕ) → a ≡ Done k → passed (mediaShape P m) ≡ true
-  unfolding mediaShape
-  shape-passed e k q = answer-passed (mediaShape P m) a k refl e q
 
 -- the page frames: SHAPE whatever the media is; or else the tests of a mount decide
 module _ (P : ℕ) (m : Media) (frames : List ℕ) where

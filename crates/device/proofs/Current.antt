@@ -14,7 +14,7 @@ use Rattle.memory.proofs.Bytes.{getD-zeros, length-overwrite, overwrite-in, ove
 use Rattle.media.specs.Geometry.{pageBytes, files, fileBytes, mediaBytes, fileStart}
 use Rattle.media.specs.Write.{byteAt}
 use Rattle.media.proofs.Geometry.{file-end}
-use Rattle.device.specs.Device.{Device, deviceOf, slotCount, freeSlot, holds, slotOf, floorAt, framesBytes, frameStart}
+use Rattle.device.specs.Device.{Device, deviceOf, slotCount, freeSlot, isUsed, holds, slotOf, floorAt, framesBytes, frameStart}
 use Rattle.device.specs.Current.{frameByte, currentAt, currentBytes}
 use Rattle.scan.proofs.Scan.{first-passes}
 use Rattle.device.proofs.Device.{holds-is}
@@ -62,7 +62,7 @@ module _ (P : ℕ) where
 
   -- no current byte is taken from a free slot: the frames may differ there
   pub free-unread : (d : Device) (frames : List ℕ) (f i : ℕ) → length (d .cache .slots) ≡ slotCount
-      → ((k r : ℕ) → k < slotCount → r < pageBytes → (getD (d .cache .slots) k freeSlot) .used ≡ true → getD frames (pageBytes * k + r) 0 ≡ frameByte d k r)
+      → ((k r : ℕ) → k < slotCount → r < pageBytes → isUsed (getD (d .cache .slots) k freeSlot) ≡ true → getD frames (pageBytes * k + r) 0 ≡ frameByte d k r)
       → currentAt P (deviceOf (d .media) frames (d .cache)) f i ≡ currentAt P d f i
   free-unread d frames f i sl h =
       current-same d (deviceOf (d .media) frames (d .cache)) f i refl

@@ -7,7 +7,7 @@ use Prim.Native.Nat.{ℕ, _+_, _<_, _≤_}
 use native.Mathlib.Omega.{arith}
 use lib.Dec.{eqb}
 use lib.ListN.{length, getD}
-use borrow.Author.Tests.{eqb-true, eq-eqb, not-true}
+use borrow.Author.Tests.{eqb-true, eq-eqb}
 use borrow.Table.Steps.{cases}
 use Rattle.memory.specs.Bytes.{overwrite}
 use Rattle.memory.proofs.Cases.{split-lt}
@@ -15,20 +15,20 @@ use Rattle.memory.proofs.Bytes.{overwrite-before, overwrite-after}
 use Rattle.media.specs.Geometry.{pageBytes}
 use Rattle.device.specs.declared.Slot.{Slot}
 use Rattle.scan.specs.Scan.{firstIndex}
-use Rattle.device.specs.Device.{Device, frameStart, freeSlot, isFree, holds, slotOf, firstFree, freeWhere}
+use Rattle.device.specs.Device.{Device, frameStart, freeSlot, isFree, isUsed, holds, slotOf, firstFree, freeWhere}
 use Rattle.scan.proofs.Scan.{and-left, and-right, is-false, true-not-false, first-passes, first-map, first-map-none}
 
 -- ---- slots
 
-pub holds-is : (f p : ℕ) (s : Slot) → holds f p s ≡ true → (s .used ≡ true) × (s .file ≡ f) × (s .page ≡ p)
+pub holds-is : (f p : ℕ) (s : Slot) → holds f p s ≡ true → (isUsed s ≡ true) × (s .file ≡ f) × (s .page ≡ p)
 holds-is f p s e =
-    let r : eqb (s .file) f && eqb (s .page) p ≡ true = and-right (s .used) _ e in (
-      and-left (s .used) _ e,
+    let r : eqb (s .file) f && eqb (s .page) p ≡ true = and-right (isUsed s) _ e in (
+      and-left (isUsed s) _ e,
       eqb-true _ _ (and-left (eqb (s .file) f) _ r),
       eqb-true _ _ (and-right (eqb (s .file) f) _ r),
     )
 
-pub holds-own : (f p : ℕ) (s : Slot) → s .used ≡ true → s .file ≡ f → s .page ≡ p → holds f p s ≡ true
+pub holds-own : (f p : ℕ) (s : Slot) → isUsed s ≡ true → s .file ≡ f → s .page ≡ p → holds f p s ≡ true
 holds-own f p s u ef ep = rw (u, eq-eqb _ _ ef, eq-eqb _ _ ep)
 
 -- a slot holds one page
@@ -36,9 +36,12 @@ pub holds-one : (f p g q : ℕ) (s : Slot) → s .file ≡ f → s .page ≡ p �
 holds-one f p g q s ef ep ne =
     is-false (holds g q s) (λ e. ne (sym (holds-is g q s e .1) ∙ ef, sym (holds-is g q s e .2) ∙ ep))
 
--- a free slot holds none
+-- a free slot is not used, and holds none
+pub free-unused : (s : Slot) → isFree s ≡ true → isUsed s ≡ false
+free-unused s e = rw (eqb-true (s .used) 0 e)
+
 pub free-holds : (f p : ℕ) (s : Slot) → isFree s ≡ true → holds f p s ≡ false
-free-holds f p s e = rw (not-true (s .used) e)
+free-holds f p s e = rw (free-unused s e)
 
 -- two pages are never in one slot
 pub slots-apart : (d : Device) (f p g q : ℕ) → ((g ≡ f) × (q ≡ p) → ⊥) → slotOf d f p < length (d .cache .slots)
@@ -67,16 +70,16 @@ module _ (among : ℕ → ℕ → Bool) (f p : ℕ) where
   freed-gone : (s : Slot) → among f p ≡ true → holds f p (freeWhere among s) ≡ false
   unfolding freeWhere
   freed-gone s e =
-      cases (s .used && among (s .file) (s .page))
+      cases (isUsed s && among (s .file) (s .page))
       (λ h. rw h)
       (λ h. rw h (is-false (holds f p s) (λ t.
       let x = holds-is f p s t in
-      true-not-false (s .used && among (s .file) (s .page)) (rw (x .0, x .1, x .2) e) h)))
+      true-not-false (isUsed s && among (s .file) (s .page)) (rw (x .0, x .1, x .2) e) h)))
 
   freed-stays : (s : Slot) → among f p ≡ false → holds f p (freeWhere among s) ≡ holds f p s
   unfolding freeWhere
   freed-stays s e =
-      cases (s .used && among (s .file) (s .page))
+      cases (isUsed s && among (s .file) (s .page))
       (λ h. rw h (sym (is-false (holds f p s) (λ t.
       let x = holds-is f p s t in
       true-not-false (among f p) (rw (x .0, x .1, x .2) at h) e))))

@@ -2,17 +2,18 @@
 use mathlib.Core.Path.{_≡_, sym, ap, _∙_, refl}
 use mathlib.Core.Logic.{_≢_}
 use mathlib.Core.List.{List, [], _∷_}
-use mathlib.Core.Bool.{true, false, false≢true}
+use mathlib.Core.Bool.{true, false, cond, false≢true}
 use Prim.Native.Nat.{ℕ, _+_, _-_, _/_, _%_, _≤_, _<_, max}
 use native.Mathlib.Nat.{le-trans}
 use native.Mathlib.Omega.{arith}
 use lib.ListN.{length, getD, length-take}
+use lib.Seq.{ext-getD}
 use lib.Dec.{leb, eqb}
 use borrow.Author.Tests.{ne-eqb, lt-ltb, le-ltb, leb-true}
 use borrow.Table.Steps.{cases}
 use Rattle.answer.specs.Coded.{Coded, refused, done, codedRefusal}
 use Rattle.answer.specs.Admission.{ifDone, Test, firstRefusal}
-use Rattle.answer.proofs.Admission.{Changeless, first-by, if-refused, passed, first-all}
+use Rattle.answer.proofs.Admission.{Changeless, first-by, passed, first-all}
 use Rattle.answer.proofs.Coded.{refusal-number}
 use Rattle.answer.specs.declared.Refusal.{Refusal}
 use Rattle.memory.specs.Bytes.{part}
@@ -20,13 +21,13 @@ use Rattle.memory.proofs.Cases.{split-lt}
 use Rattle.memory.proofs.Bytes.{length-part, getD-part}
 use Rattle.media.specs.Geometry.{files, pageBytes, fileBytes, mediaBytes, fileStart}
 use Rattle.media.proofs.Geometry.{file-end}
-use Rattle.device.specs.Device.{Device, slotCount, framesBytes, frameStart, slotOf, logicalAt, floorAt}
-use Rattle.device.specs.Current.{currentAt}
+use Rattle.device.specs.Device.{Device, slotCount, framesBytes, frameStart, slotOf, isCached, logicalAt, floorAt}
+use Rattle.device.specs.Current.{currentAt, currentBytes}
 use Rattle.device.specs.Admission.{mediaShape, framesShape, sizesFit, stateTests, fileTests}
 use Rattle.device.specs.declared.Span.{Span}
 use Rattle.device.specs.Looking.{toPageEnd, lookCount, lookedSpan, noSpan, lookSpan, spanBytes, lookedAt, look, placeOf, lookPlace}
 use Rattle.device.proofs.Admission.{Admitted, file-changeless, file-admitted}
-use Rattle.device.proofs.Current.{current-cached, current-media, current-zero}
+use Rattle.device.proofs.Current.{current-cached, current-media, current-zero, length-current, current-at}
 use Rattle.device.proofs.Sound.{Fit, sound-sizes}
 
 look-changeless : (P f position : ℕ) (d : Device) → Changeless (fileTests P d f (leb position (fileBytes P)))
@@ -114,6 +115,32 @@ module _ (P : ℕ) (d : Device) (f position : ℕ) where
       current-zero P d f (position + k) (position / pageBytes) (omega arith) l (omega arith))
       (λ h. current-zero P d f (position + k) (position / pageBytes) (omega arith) l (omega arith)))
 
+  -- how many bytes: to the logical size where the page is cached, to the floor where it is not
+  pub looked-length : Fit P d → length (d .frames) ≡ framesBytes → f < files
+      → length (lookedAt P f position d) ≡ toPageEnd position (cond (isCached d f (position / pageBytes)) (logicalAt d f) (floorAt d f))
+  looked-length x frames hf =
+      split-lt (slotOf d f (position / pageBytes)) slotCount
+      (λ l.
+      let a : ℕ = frameStart (slotOf d f (position / pageBytes)) + position % pageBytes in
+      let n : ℕ = toPageEnd position (logicalAt d f) in
+      rw (lt-ltb _ _ l) (ap length (from-frame l) ∙ length-part (d .frames) a n (omega arith)))
+      (λ l.
+      let n : ℕ = toPageEnd position (floorAt d f) in
+      rw (le-ltb _ _ l)
+      (split-lt position (floorAt d f)
+      (λ h.
+      ap length (from-media l)
+      ∙ length-part (d .media .bytes) (fileStart P f + position) n
+      (omega (arith, file-end P f hf, x .bytes, x .sizes .floor-logical f hf, x .sizes .logical-fits f hf)))
+      (λ h. let z : length (lookedAt P f position d) ≤ n = rw (from-media l) (part-most (d .media .bytes) (fileStart P f + position) n) in omega arith)))
+
+  pub looked-bytes : Fit P d → length (d .frames) ≡ framesBytes → f < files
+      → lookedAt P f position d ≡ currentBytes P d f position (toPageEnd position (cond (isCached d f (position / pageBytes)) (logicalAt d f) (floorAt d f)))
+  looked-bytes x frames hf =
+      let n : ℕ = toPageEnd position (cond (isCached d f (position / pageBytes)) (logicalAt d f) (floorAt d f)) in
+      ext-getD 0 (lookedAt P f position d) (currentBytes P d f position n) (looked-length x frames hf ∙ sym (length-current P d f position n))
+      (λ i l. looked-current i l ∙ sym (current-at P d f position n i (rw (looked-length x frames hf) at l)))
+
 -- ---- the ends of a look
 
 first-other : (ts : List Test) (a : Coded) (x : Refusal) → codedRefusal x ≡ firstRefusal ts (done 0) → codedRefusal x ≡ firstRefusal ts a
@@ -143,10 +170,6 @@ module _ (P f position : ℕ) (d : Device) where
         → record { cached = false; from = fileStart P f + position; count = n } ≡ lookSpan P f position d
     unfolding lookedSpan
     span-media n l en = let q : slotCount ≤ slotOf d f (position / pageBytes) = omega arith in rw en (sym (looked ∙ rw (le-ltb _ _ q)))
-
-  pub span-refused : (x : Refusal) → codedRefusal x ≡ firstRefusal (fileTests P d f (leb position (fileBytes P))) (done 0) → noSpan ≡ lookSpan P f position d
-  unfolding lookSpan
-  span-refused x e = sym (if-refused (lookCount P f position d) x (lookedSpan P f position d) noSpan (count-refused x e))
 
 -- ---- where the part lies is in the media or in the page frames
 

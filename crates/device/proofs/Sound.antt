@@ -7,7 +7,7 @@ use native.Mathlib.Omega.{arith}
 use lib.Dec.{eqb, leb}
 use lib.ListN.{length, getD, set, length-set, length-map, replicate, List·getD-map}
 use lib.Seq.{ext-getD, getD-set-same, getD-set-other, set-getD}
-use borrow.Author.Tests.{eqb-true, leb-true, eq-eqb, lt-ltb, not-true}
+use borrow.Author.Tests.{eqb-true, leb-true, eq-eqb, lt-ltb}
 use borrow.Table.Steps.{cases}
 use Rattle.memory.proofs.Cases.{split-eq}
 use Rattle.memory.specs.Bytes.{zeros}
@@ -16,12 +16,12 @@ use Rattle.media.specs.Geometry.{files, fileBytes, mediaBytes}
 use Rattle.device.specs.declared.Slot.{Slot}
 use Rattle.device.specs.declared.CacheState.{CacheState}
 use Rattle.scan.specs.Scan.{allOf, every, everyBelow, firstIndex}
-use Rattle.device.specs.Device.{Device, downState, slotCount, freeSlot, noSlots, isFree, holds, freeWhere}
+use Rattle.device.specs.Device.{Device, downState, slotCount, freeSlot, noSlots, isFree, isUsed, usedSlot, holds, freeWhere}
 use Rattle.device.specs.Sizes.{inOrder}
-use Rattle.device.specs.Sound.{inRange, holdsAlone, isDown, sizesIn, sizesOf, soundTests, isSound}
+use Rattle.device.specs.Sound.{inRange, holdsAlone, isDown, sizesIn, sizesOf, hasLengths, soundTests, isSound}
 use Rattle.scan.proofs.Scan.{and-left, and-right, is-false, true-not-false, allOf-at, everyBelow-at, everyBelow-all, every-at, every-all, first-set, first-set-here}
 use Rattle.device.proofs.Sizes.{order-true, order-is}
-use Rattle.device.proofs.Device.{holds-own, holds-one, free-holds, slot-stays}
+use Rattle.device.proofs.Device.{holds-own, holds-one, free-unused, free-holds, slot-stays}
 
 module _ (P : ℕ) where
   -- ---- facts
@@ -30,7 +30,7 @@ module _ (P : ℕ) where
   pub record SlotsFit (slots : List Slot) : Type 0 where
     pub count : length slots ≡ slotCount
     pub named : (k : ℕ) → k < slotCount → inRange P (getD slots k freeSlot) ≡ true
-    pub alone : (k : ℕ) (s : Slot) → getD slots k freeSlot ≡ s → k < slotCount → s .used ≡ true → firstIndex (holds (s .file) (s .page)) slots ≡ k
+    pub alone : (k : ℕ) (s : Slot) → getD slots k freeSlot ≡ s → k < slotCount → isUsed s ≡ true → firstIndex (holds (s .file) (s .page)) slots ≡ k
 
   pub record SizesFit (logical floor stored : List ℕ) : Type 0 where
     pub logical-count : length logical ≡ files
@@ -54,12 +54,21 @@ module _ (P : ℕ) where
   free-at (suc n) zero = refl
   free-at (suc n) (suc k) = free-at n k
 
-  -- a sound device has these facts, where its lists are as long as the code's arrays
+  pub sound-lengths : (stored : List ℕ) (s : CacheState) → isSound P stored s ≡ true
+      → (length (s .slots) ≡ slotCount) × (length (s .logical) ≡ files) × (length (s .floor) ≡ files)
+  unfolding isSound soundTests hasLengths
+  sound-lengths stored s e =
+      let tests : List Bool = eqb (length (s .slots)) slotCount ∷ eqb (length (s .logical)) files ∷ eqb (length (s .floor)) files ∷ [] in
+      let t : allOf tests ≡ true = allOf-at (soundTests P stored s) e 5 in
+      (eqb-true _ _ (allOf-at tests t 0), eqb-true _ _ (allOf-at tests t 1), eqb-true _ _ (allOf-at tests t 2))
+
+  -- a sound device has these facts
   pub sound-fit : (d : Device) → isSound P (d .media .sizes) (d .cache) ≡ true → length (d .media .bytes) ≡ mediaBytes P → length (d .media .sizes) ≡ files
-      → every (λ n. leb n (fileBytes P)) (d .media .sizes) ≡ true → length (d .cache .slots) ≡ slotCount
-      → length (d .cache .logical) ≡ files → length (d .cache .floor) ≡ files → Fit d
+      → every (λ n. leb n (fileBytes P)) (d .media .sizes) ≡ true → Fit d
   unfolding isSound soundTests holdsAlone
-  sound-fit d e lb ls fit lk ll lf =
+  sound-fit d e lb ls fit =
+      let lengths = sound-lengths (d .media .sizes) (d .cache) e in
+      let lk : length (d .cache .slots) ≡ slotCount = lengths .0 in
       let order : (f : ℕ) → f < files → inOrder (fileBytes P) (sizesOf d f) ≡ true = everyBelow-at files _ (allOf-at (soundTests P (d .media .sizes) (d .cache)) e 3) in
       record {
         bytes = lb;
@@ -71,8 +80,8 @@ module _ (P : ℕ) where
               eqb-true _ _ (rw (es, u) at t);
         };
         sizes = record {
-          logical-count = ll;
-          floor-count = lf;
+          logical-count = lengths .1;
+          floor-count = lengths .2;
           stored-count = ls;
           floor-logical = λ f h. order-is (fileBytes P) (sizesOf d f) (order f h) .0;
           logical-fits = λ f h. order-is (fileBytes P) (sizesOf d f) (order f h) .1;
@@ -83,51 +92,51 @@ module _ (P : ℕ) where
 
   -- a mounted device with these facts is sound
   pub fit-sound : (d : Device) → Fit d → d .cache .mounted ≡ 1 → isSound P (d .media .sizes) (d .cache) ≡ true
-  unfolding isSound soundTests holdsAlone
+  unfolding isSound soundTests holdsAlone hasLengths
   fit-sound d x up =
       let named : every (inRange P) (d .cache .slots) ≡ true =
       every-all (inRange P) (d .cache .slots) freeSlot (λ k h. x .slots .named k (rw (x .slots .count) at h)) in
       let alone : everyBelow slotCount (holdsAlone (d .cache .slots)) ≡ true =
       everyBelow-all slotCount (holdsAlone (d .cache .slots)) (λ k h.
-      cases (getD (d .cache .slots) k freeSlot .used)
+      cases (isUsed (getD (d .cache .slots) k freeSlot))
       (λ u. rw (u, eq-eqb _ _ (x .slots .alone k (getD (d .cache .slots) k freeSlot) refl h u)))
       (λ u. rw u)) in
       let order : everyBelow files (λ f. inOrder (fileBytes P) (sizesOf d f)) ≡ true =
       everyBelow-all files (λ f. inOrder (fileBytes P) (sizesOf d f)) (λ f h.
       order-true (fileBytes P) (sizesOf d f) (x .sizes .floor-logical f h) (x .sizes .logical-fits f h) (x .sizes .floor-stored f h)) in
-      rw (up, named, alone, order)
+      rw (up, named, alone, order, eq-eqb _ _ (x .slots .count), eq-eqb _ _ (x .sizes .logical-count), eq-eqb _ _ (x .sizes .floor-count))
 
   -- the up mark is 0 or 1
   pub sound-mark : (stored : List ℕ) (s : CacheState) → isSound P stored s ≡ true → s .mounted ≤ 1
   unfolding isSound soundTests
   sound-mark stored s e = leb-true _ _ (allOf-at (soundTests P stored s) e 0)
 
-  -- a free slot carries file 0 and page 0
+  -- a slot that is not used is free, and carries file 0 and page 0
   pub sound-free : (stored : List ℕ) (s : CacheState) → isSound P stored s ≡ true → (k : ℕ) → k < length (s .slots)
-      → isFree (getD (s .slots) k freeSlot) ≡ true → getD (s .slots) k freeSlot ≡ freeSlot
+      → isUsed (getD (s .slots) k freeSlot) ≡ false → getD (s .slots) k freeSlot ≡ freeSlot
   unfolding isSound soundTests inRange
-  sound-free stored s e k h free =
+  sound-free stored s e k h u =
       let z : Slot = getD (s .slots) k freeSlot in
-      let u : z .used ≡ false = not-true (z .used) free in
-      let r : eqb (z .file) 0 && eqb (z .page) 0 ≡ true = rw u at (every-at (inRange P) (s .slots) freeSlot (allOf-at (soundTests P stored s) e 1) k h) in
-      slot-is z u (eqb-true _ _ (and-left (eqb (z .file) 0) _ r)) (eqb-true _ _ (and-right (eqb (z .file) 0) _ r))
+      let r : isFree z && (eqb (z .file) 0 && eqb (z .page) 0) ≡ true = rw u at (every-at (inRange P) (s .slots) freeSlot (allOf-at (soundTests P stored s) e 1) k h) in
+      let q = and-right (isFree z) _ r in
+      slot-is z (eqb-true _ _ (and-left (isFree z) _ r)) (eqb-true _ _ (and-left (eqb (z .file) 0) _ q)) (eqb-true _ _ (and-right (eqb (z .file) 0) _ q))
     where
-      slot-is : (z : Slot) → z .used ≡ false → z .file ≡ 0 → z .page ≡ 0 → z ≡ freeSlot
+      slot-is : (z : Slot) → z .used ≡ 0 → z .file ≡ 0 → z .page ≡ 0 → z ≡ freeSlot
       slot-is z u f p = let q : record { used = z .used; file = z .file; page = z .page } ≡ freeSlot = rw (u, f, p) in q
 
   -- a sound state that is down is the down state
-  pub sound-down : (stored : List ℕ) (s : CacheState) → isSound P stored s ≡ true → s .mounted ≡ 0
-      → length (s .slots) ≡ slotCount → length (s .logical) ≡ files → length (s .floor) ≡ files → s ≡ downState
+  pub sound-down : (stored : List ℕ) (s : CacheState) → isSound P stored s ≡ true → s .mounted ≡ 0 → s ≡ downState
   unfolding isSound soundTests isDown
-  sound-down stored s e down lk ll lf =
+  sound-down stored s e down =
+      let lengths = sound-lengths stored s e in
       let tests : List Bool = every isFree (s .slots) ∷ every (λ n. eqb n 0) (s .logical) ∷ every (λ n. eqb n 0) (s .floor) ∷ [] in
       let t : allOf tests ≡ true = rw (eq-eqb _ _ down) at (allOf-at (soundTests P stored s) e 4) in
       let slots : s .slots ≡ noSlots =
-      ext-getD freeSlot (s .slots) noSlots lk (λ k h.
-      sound-free stored s e k h (every-at isFree (s .slots) freeSlot (allOf-at tests t 0) k h) ∙ sym (free-at slotCount k)) in
+      ext-getD freeSlot (s .slots) noSlots (lengths .0) (λ k h.
+      sound-free stored s e k h (free-unused (getD (s .slots) k freeSlot) (every-at isFree (s .slots) freeSlot (allOf-at tests t 0) k h)) ∙ sym (free-at slotCount k)) in
       let zero-at : (xs : List ℕ) → length xs ≡ files → every (λ n. eqb n 0) xs ≡ true → xs ≡ zeros files =
       λ xs l z. ext-getD 0 xs (zeros files) l (λ k h. eqb-true _ _ (every-at (λ n. eqb n 0) xs 0 z k h) ∙ sym (getD-zeros files k)) in
-      state-is s down slots (zero-at (s .logical) ll (allOf-at tests t 1)) (zero-at (s .floor) lf (allOf-at tests t 2))
+      state-is s down slots (zero-at (s .logical) (lengths .1) (allOf-at tests t 1)) (zero-at (s .floor) (lengths .2) (allOf-at tests t 2))
     where
       state-is : (s : CacheState) → s .mounted ≡ 0 → s .slots ≡ noSlots → s .logical ≡ zeros files → s .floor ≡ zeros files → s ≡ downState
       state-is s a b c d =
@@ -135,7 +144,7 @@ module _ (P : ℕ) where
 
   -- the down state is sound beside any stored sizes
   pub down-sound : (stored : List ℕ) → isSound P stored downState ≡ true
-  unfolding isSound soundTests holdsAlone isDown inRange
+  unfolding isSound soundTests holdsAlone isDown inRange hasLengths
   down-sound stored =
       let order : everyBelow files (λ f. inOrder (fileBytes P) (sizesIn stored downState f)) ≡ true =
       everyBelow-all files (λ f. inOrder (fileBytes P) (sizesIn stored downState f)) (λ f h.
@@ -150,15 +159,15 @@ module _ (P : ℕ) where
   none-fit = record {
     count = refl;
     named = λ k h. rw (free-at slotCount k);
-    alone = λ k s e h u. absurd (false≢true (ap (λ (z : Slot). z .used) (sym (free-at slotCount k) ∙ e) ∙ u));
+    alone = λ k s e h u. absurd (false≢true (ap isUsed (sym (free-at slotCount k) ∙ e) ∙ u));
   }
 
   -- a free slot takes a page that none holds
   pub take-fit : (slots : List Slot) (f p j : ℕ) → SlotsFit slots → f < files → p < P → slotCount ≤ firstIndex (holds f p) slots → j < slotCount
-      → isFree (getD slots j freeSlot) ≡ true → SlotsFit (set slots j (record { used = true; file = f; page = p }))
+      → isFree (getD slots j freeSlot) ≡ true → SlotsFit (set slots j (usedSlot f p))
   unfolding inRange
   take-fit slots f p j x hf hp none hj free =
-      let y : Slot = record { used = true; file = f; page = p } in
+      let y : Slot = usedSlot f p in
       record {
         count = rw length-set (x .count);
         named = λ k h.
@@ -185,7 +194,7 @@ module _ (P : ℕ) where
   freed-fit slots among x = record {
     count = length-map slots (freeWhere among) ∙ x .count;
     named = λ k h. rw (at k)
-        (cases (getD slots k freeSlot .used && among (getD slots k freeSlot .file) (getD slots k freeSlot .page))
+        (cases (isUsed (getD slots k freeSlot) && among (getD slots k freeSlot .file) (getD slots k freeSlot .page))
         (λ e. rw e)
         (λ e. rw e (x .named k h)));
     alone = λ k s es h u.
@@ -198,13 +207,13 @@ module _ (P : ℕ) where
       at k = List·getD-map (freeWhere among) slots k freeSlot
 
       -- a slot that is still used is as it was
-      kept : (z s : Slot) → freeWhere among z ≡ s → s .used ≡ true → (z ≡ s) × (among (s .file) (s .page) ≡ false)
+      kept : (z s : Slot) → freeWhere among z ≡ s → isUsed s ≡ true → (z ≡ s) × (among (s .file) (s .page) ≡ false)
       kept z s q u =
-          cases (z .used && among (z .file) (z .page))
-          (λ e. absurd (false≢true (ap (λ (y : Slot). y .used) (rw e at q) ∙ u)))
+          cases (isUsed z && among (z .file) (z .page))
+          (λ e. absurd (false≢true (ap isUsed (rw e at q) ∙ u)))
           (λ e.
           let q′ : z ≡ s = rw e at q in
-          (q′, is-false (among (s .file) (s .page)) (λ t. true-not-false (s .used && among (s .file) (s .page)) (rw (u, t)) (rw q′ at e))))
+          (q′, is-false (among (s .file) (s .page)) (λ t. true-not-false (isUsed s && among (s .file) (s .page)) (rw (u, t)) (rw q′ at e))))
 
   -- ---- what keeps the sizes
 

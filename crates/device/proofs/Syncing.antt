@@ -306,10 +306,65 @@ module _ (P : ℕ) (d : Device) (x : Fit P d) (frames : length (d .frames) ≡ f
 abbrev pub syncedDevice : ℕ → Device → ℕ → Device
 syncedDevice P d f = deviceOf (applyAll P (d .media) (syncPlan P d f)) (d .frames) (syncedState (d .cache) f)
 
-module _ (P : ℕ) (d : Device) (f : ℕ) (r : Ready P d f) where
-  synced-media-bytes : length (applyAll P (d .media) (syncPlan P d f) .bytes) ≡ mediaBytes P
-  synced-media-bytes = all-bytes-stay P (d .media) (syncPlan P d f) ∙ r .fit .bytes
+pages-sizes : (P : ℕ) (d : Device) (f : ℕ) (m : Media) (n p : ℕ) → applyAll P m (pageWrites d f n p) .sizes ≡ m .sizes
+unfolding pageWrites pageWrite writeIf
+pages-sizes P d f m zero p = refl
+pages-sizes P d f m (suc n) p =
+    cases (isCached d f p)
+    (λ e. rw e (pages-sizes P d f (apply P m (page f p (part (d .frames) (frameStart (slotOf d f p)) pageBytes))) n (suc p)))
+    (λ e. rw e (pages-sizes P d f m n (suc p)))
 
+module _ (P : ℕ) (d : Device) (x : Fit P d) (frames : length (d .frames) ≡ framesBytes) (f : ℕ) (hf : f < files) where
+  abbrev trimmedMedia : Media
+  trimmedMedia = applyAll P (d .media) (trimWrites d f)
+
+  trimmed-sizes : (length (trimmedMedia .sizes) ≡ files) × (sizeAt trimmedMedia f ≡ floorAt d f)
+  unfolding trimWrites writeIf
+  trimmed-sizes =
+      split-lt (floorAt d f) (sizeAt (d .media) f)
+      (λ l. rw (lt-ltb _ _ l) (rw length-set (x .sizes .stored-count), getD-set-same (d .media .sizes) f (floorAt d f) 0 (omega (arith, hf, x .sizes .stored-count))))
+      (λ l. rw (le-ltb _ _ l) (x .sizes .stored-count, omega (arith, x .sizes .floor-stored f hf)))
+
+  -- the stored size is the logical size, whatever bytes the media has
+  pub synced-size : sizeAt (applyAll P (d .media) (syncPlan P d f)) f ≡ logicalAt d f
+  unfolding syncPlan sizeWrites writeIf
+  synced-size =
+      let t = trimmed-sizes in
+      let same : applyAll P trimmedMedia (pageWrites d f P 0) .sizes ≡ trimmedMedia .sizes = pages-sizes P d f trimmedMedia P 0 in
+      rw (all-append P (d .media) (trimWrites d f) (pageWrites d f P 0 ++ sizeWrites d f), all-append P trimmedMedia (pageWrites d f P 0) (sizeWrites d f))
+      (split-eq (logicalAt d f) (floorAt d f)
+      (λ e. rw (eq-eqb _ _ e, same) (t .1 ∙ sym e))
+      (λ ne. rw (ne-eqb _ _ ne, same) (getD-set-same (trimmedMedia .sizes) f (logicalAt d f) 0 (omega (arith, hf)))))
+
+  pub synced-fit : Fit P (syncedDevice P d f)
+  unfolding syncedState
+  synced-fit =
+      let z = x .sizes in
+      let low : floorAt (syncedDevice P d f) f ≡ logicalAt d f = getD-set-same (d .cache .floor) f (logicalAt d f) 0 (omega (arith, hf, z .floor-count)) in
+      let low-other : (g : ℕ) → g ≢ f → floorAt (syncedDevice P d f) g ≡ floorAt d g = λ g ne. getD-set-other (d .cache .floor) f g (logicalAt d f) 0 ne in
+      let size-other : (g : ℕ) → g ≢ f → sizeAt (syncedDevice P d f .media) g ≡ sizeAt (d .media) g =
+      λ g ne. own-other-size P (d .media) f (syncPlan P d f) (plan-own P d x frames f hf) g ne in
+      record {
+        bytes = all-bytes-stay P (d .media) (syncPlan P d f) ∙ x .bytes;
+        slots = freed-fit P (d .cache .slots) (pagesOf f) (x .slots);
+        sizes = record {
+          logical-count = z .logical-count;
+          floor-count = rw length-set (z .floor-count);
+          stored-count = all-sizes-stay P (d .media) (syncPlan P d f) ∙ z .stored-count;
+          floor-logical = λ g h. split-eq g f
+              (λ e. rw (e, low) (omega arith))
+              (λ ne. rw (low-other g ne) (z .floor-logical g h));
+          logical-fits = z .logical-fits;
+          floor-stored = λ g h. split-eq g f
+              (λ e. rw (e, low, synced-size) (omega arith))
+              (λ ne. rw (low-other g ne, size-other g ne) (z .floor-stored g h));
+          stored-fits = λ g h. split-eq g f
+              (λ e. rw (e, synced-size) (z .logical-fits f hf))
+              (λ ne. rw (size-other g ne) (z .stored-fits g h));
+        };
+      }
+
+module _ (P : ℕ) (d : Device) (f : ℕ) (r : Ready P d f) where
   pub synced-floor : floorAt (syncedDevice P d f) f ≡ logicalAt d f
   unfolding syncedState
   synced-floor = getD-set-same (d .cache .floor) f (logicalAt d f) 0 (omega (arith, r .file, r .fit .sizes .floor-count))
@@ -335,12 +390,12 @@ module _ (P : ℕ) (d : Device) (f : ℕ) (r : Ready P d f) where
   synced-free q = slot-gone (pagesOf f) f q (d .cache .slots) (eq-eqb f f refl) ∙ r .fit .slots .count
 
   -- a page is cached that was, and none of the file
-  pub synced-cached : (g q : ℕ) → isCached (syncedDevice P d f) g q ≡ true → (isCached d g q ≡ true) × (g ≢ f)
+  pub synced-cached : (q : ℕ) → isCached (syncedDevice P d f) f q ≡ false
+  synced-cached q = rw (synced-free q)
+
+  pub synced-cached-other : (g q : ℕ) → g ≢ f → isCached (syncedDevice P d f) g q ≡ isCached d g q
   unfolding syncedState
-  synced-cached g q h =
-      split-eq g f
-      (λ e. let l : slotOf (syncedDevice P d f) f q < slotCount = ltb-true _ _ (rw e at h) in absurd (omega (arith, synced-free q)))
-      (λ ne. (rw (slot-stays (pagesOf f) g q (d .cache .slots) (ne-eqb g f ne)) at h, ne))
+  synced-cached-other g q ne = rw (slot-stays (pagesOf f) g q (d .cache .slots) (ne-eqb g f ne))
 
   -- the current bytes stay, where those past the logical size are 0
   pub synced-own : (i : ℕ) → i < fileBytes P → (logicalAt d f ≤ i → currentAt P d f i ≡ 0) → currentAt P (syncedDevice P d f) f i ≡ currentAt P d f i
@@ -359,31 +414,6 @@ module _ (P : ℕ) (d : Device) (f : ℕ) (r : Ready P d f) where
       current-same P d (syncedDevice P d f) g i
       (slot-stays (pagesOf f) g (i / pageBytes) (d .cache .slots) (ne-eqb g f ne))
       (λ l. refl) (synced-floor-other g ne) (synced-byte-other g i ne hg hi)
-
-  pub synced-fit : Fit P (syncedDevice P d f)
-  unfolding syncedState
-  synced-fit =
-      let x = r .fit .sizes in
-      let own : sizeAt (applyAll P (d .media) (syncPlan P d f)) f ≡ logicalAt d f = sync-done P d f r .stored in
-      record {
-        bytes = synced-media-bytes;
-        slots = freed-fit P (d .cache .slots) (pagesOf f) (r .fit .slots);
-        sizes = record {
-          logical-count = x .logical-count;
-          floor-count = rw length-set (x .floor-count);
-          stored-count = all-sizes-stay P (d .media) (syncPlan P d f) ∙ x .stored-count;
-          floor-logical = λ g h. split-eq g f
-              (λ e. rw (e, synced-floor) (omega arith))
-              (λ ne. rw (synced-floor-other g ne) (x .floor-logical g h));
-          logical-fits = x .logical-fits;
-          floor-stored = λ g h. split-eq g f
-              (λ e. rw (e, synced-floor, own) (omega arith))
-              (λ ne. rw (synced-floor-other g ne, synced-size-other g ne) (x .floor-stored g h));
-          stored-fits = λ g h. split-eq g f
-              (λ e. rw (e, own) (x .logical-fits f (r .file)))
-              (λ ne. rw (synced-size-other g ne) (x .stored-fits g h));
-        };
-      }
 
 -- ---- the code of a sync
 

@@ -1,15 +1,15 @@
 -- What a truncate does to the current bytes and the sizes.
 use mathlib.Core.Path.{_≡_, refl, _∙_}
 use mathlib.Core.Logic.{_≢_}
-use mathlib.Core.Bool.{true}
+use mathlib.Core.Bool.{Bool, true, false, _&&_}
 use mathlib.Core.List.{List, [], map}
 use Prim.Native.Nat.{ℕ, _+_, _-_, _*_, _/_, _%_, _≤_, _<_, min}
 use native.Mathlib.Omega.{arith}
-use lib.Dec.{leb}
-use lib.ListN.{length, getD, length-map, length-replicate}
+use lib.Dec.{leb, ltb}
+use lib.ListN.{length, getD, length-map, length-replicate, List·getD-map}
 use lib.Seq.{getD-set-same, getD-set-other}
 use borrow.Table.Steps.{cases}
-use borrow.Author.Tests.{eq-eqb, ne-eqb, lt-ltb, le-ltb, le-leb, lt-leb, ltb-true}
+use borrow.Author.Tests.{eq-eqb, ne-eqb, lt-ltb, le-ltb, le-leb, lt-leb}
 use Rattle.answer.specs.Coded.{refused, done, codedRefusal}
 use Rattle.answer.specs.Admission.{firstRefusal}
 use Rattle.answer.proofs.Admission.{passed}
@@ -18,7 +18,7 @@ use Rattle.memory.specs.Bytes.{zeros, overwrite}
 use Rattle.memory.proofs.Cases.{split-lt, split-eq}
 use Rattle.memory.proofs.Bytes.{getD-zeros, length-overwrite, overwrite-before, overwrite-in}
 use Rattle.media.specs.Geometry.{files, pageBytes, fileBytes}
-use Rattle.device.specs.Device.{Device, slotCount, framesBytes, frameStart, slotOf, isCached, freeWhere, logicalAt, floorAt, deviceOf, withSlots}
+use Rattle.device.specs.Device.{Device, slotCount, framesBytes, frameStart, freeSlot, slotOf, isCached, freeWhere, logicalAt, floorAt, deviceOf, withSlots}
 use Rattle.device.specs.Current.{frameByte, currentAt}
 use Rattle.device.specs.Admission.{Result, give, fileTests}
 use Rattle.device.specs.Truncating.{pagesFrom, clearTail, withSizes, truncated, truncate}
@@ -37,6 +37,12 @@ pub truncate-by : (P f n : ℕ) (d : Device) (Q : Result Device → Type 0)
     → Q (truncate P f n d)
 unfolding truncate
 truncate-by P f n d Q fails finished = file-by P d Q f (leb n (fileBytes P)) d _ fails finished
+
+-- exactly the slots of pages that begin at or past n are freed
+pub truncated-slots : (f n : ℕ) (d : Device) (k : ℕ)
+    → getD (truncated f n d .cache .slots) k freeSlot ≡ freeWhere (pagesFrom f n) (getD (d .cache .slots) k freeSlot)
+unfolding truncated clearTail withSizes freeWhere
+truncated-slots f n d k = List·getD-map (freeWhere (pagesFrom f n)) (d .cache .slots) k freeSlot
 
 -- a truncate keeps the media, the length of the frames, and the mount
 pub truncate-kept : (P f n : ℕ) (d : Device) → Kept d (truncate P f n d .left)
@@ -100,14 +106,22 @@ module _ (P : ℕ) (d : Device) (x : Fit P d) (frames : length (d .frames) ≡ f
   slot-freed q h = slot-gone (pagesFrom f n) f q (d .cache .slots) (rw (eq-eqb f f refl, le-leb _ _ h)) ∙ x .slots .count
 
   -- a page is cached that was, and of file f only where it begins below n
-  pub truncated-cached : (g q : ℕ) → isCached (truncated f n d) g q ≡ true → (isCached d g q ≡ true) × (g ≡ f → pageBytes * q < n)
-  truncated-cached g q h =
-      split-eq g f
-      (λ e.
+  pub truncated-cached : (q : ℕ) → isCached (truncated f n d) f q ≡ isCached d f q && ltb (pageBytes * q) n
+  truncated-cached q =
       split-lt (pageBytes * q) n
-      (λ l. (rw (slot-kept g q (λ _. l)) at h, λ _. l))
-      (λ l. let k : slotOf (truncated f n d) f q < slotCount = ltb-true _ _ (rw e at h) in absurd (omega (arith, slot-freed q l))))
-      (λ ne. (rw (slot-kept g q (λ e. absurd (ne e))) at h, λ e. absurd (ne e)))
+      (λ l. rw (slot-kept f q (λ _. l), lt-ltb _ _ l) (and-true (isCached d f q)))
+      (λ l. rw (slot-freed q l, le-ltb _ _ l) (and-false (isCached d f q)))
+    where
+      and-true : (b : Bool) → b ≡ b && true
+      and-true true = refl
+      and-true false = refl
+
+      and-false : (b : Bool) → false ≡ b && false
+      and-false true = refl
+      and-false false = refl
+
+  pub truncated-cached-other : (g q : ℕ) → g ≢ f → isCached (truncated f n d) g q ≡ isCached d g q
+  truncated-cached-other g q ne = rw (slot-kept g q (λ e. absurd (ne e)))
 
   slots-count : length (truncated f n d .cache .slots) ≡ slotCount
   unfolding truncated clearTail withSizes

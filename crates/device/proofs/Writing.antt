@@ -1,12 +1,12 @@
 -- What a write does to the current bytes: a page that becomes cached, a page that is patched, page after page.
 use mathlib.Core.Path.{_≡_, refl, sym, ap, _∙_}
 use mathlib.Core.Logic.{_≢_, _⊎_, inl, inr}
-use mathlib.Core.Bool.{Bool, true, false, cond}
+use mathlib.Core.Bool.{Bool, true, false, cond, _||_}
 use mathlib.Core.List.{List, [], _∷_, _++_}
 use Prim.Native.Nat.{ℕ, zero, suc, _+_, _-_, _*_, _/_, _%_, _≤_, _<_, min, max}
 use native.Mathlib.Omega.{arith}
 use native.Mathlib.Nat.{add-zero}
-use lib.Dec.{leb, eqb}
+use lib.Dec.{leb, eqb, ltb}
 use lib.ListN.{length, getD, set, take, drop, length-take, length-drop, length-replicate}
 use lib.Seq.{getD-take, getD-drop, drop-drop, getD-set-same, getD-set-other, take-all}
 use borrow.Author.Tests.{ltb-true, lt-ltb, le-ltb, eq-eqb, ne-eqb}
@@ -24,7 +24,7 @@ use Rattle.media.specs.Write.{byteAt, Media}
 use Rattle.media.proofs.Geometry.{file-end, page-end}
 use Rattle.device.specs.declared.Slot.{Slot}
 use Rattle.scan.specs.Scan.{firstIndex}
-use Rattle.device.specs.Device.{Device, slotCount, framesBytes, frameStart, freeSlot, isFree, holds, slotOf, isCached, firstFree, logicalAt, floorAt, deviceOf, withLogical}
+use Rattle.device.specs.Device.{Device, slotCount, framesBytes, frameStart, freeSlot, isFree, usedSlot, holds, slotOf, isCached, firstFree, logicalAt, floorAt, deviceOf, withLogical}
 use Rattle.device.specs.Current.{frameByte, currentAt}
 use Rattle.device.specs.Admission.{Result, give, fileTests}
 use Rattle.device.specs.Writing.{hasSlot, blankPage, filledPage, cachePage, patchPage, putPage, Written, andMore, putPages, grown, hasRoom, write}
@@ -109,6 +109,78 @@ write-kept P f position bytes d =
     (λ z. rw z k)
     (λ z. rw z (record { media = k .media; frames = k .frames; mounted = k .mounted })))
 
+-- ---- used slots stay as they are
+
+first-free-set : (slots : List Slot) (s : Slot) (k : ℕ) → isFree (getD slots k freeSlot) ≡ false
+    → getD (set slots (firstIndex isFree slots) s) k freeSlot ≡ getD slots k freeSlot
+first-free-set [] s k u = refl
+first-free-set (z ∷ slots) s zero u = rw u
+first-free-set (z ∷ slots) s (suc k) u = cases (isFree z) (λ e. rw e) (λ e. rw e (first-free-set slots s k u))
+
+module _ (P f : ℕ) where
+  put-used : (p offset : ℕ) (bytes : List ℕ) (d : Device) (k : ℕ) → isFree (getD (d .cache .slots) k freeSlot) ≡ false
+      → getD (putPage P f p offset bytes d .cache .slots) k freeSlot ≡ getD (d .cache .slots) k freeSlot
+  unfolding putPage patchPage cachePage
+  put-used p offset bytes d k u = cases (isCached d f p) (λ e. rw e) (λ e. rw e (first-free-set (d .cache .slots) _ k u))
+
+  pages-used : (n position : ℕ) (bytes : List ℕ) (d : Device) (k : ℕ) → isFree (getD (d .cache .slots) k freeSlot) ≡ false
+      → getD (putPages P f n position bytes d .device .cache .slots) k freeSlot ≡ getD (d .cache .slots) k freeSlot
+  pages-used zero position bytes d k u = refl
+  pages-used (suc n) position [] d k u = refl
+  pages-used (suc n) position (b ∷ bs) d k u =
+      let p : ℕ = position / pageBytes in
+      let offset : ℕ = position % pageBytes in
+      let piece : List ℕ = take (pageBytes - offset) (b ∷ bs) in
+      let same : getD (putPage P f p offset piece d .cache .slots) k freeSlot ≡ getD (d .cache .slots) k freeSlot = put-used p offset piece d k u in
+      cases (hasSlot d f p)
+      (λ e. rw e (pages-used n (pageBytes * suc p) (drop (pageBytes - offset) (b ∷ bs)) (putPage P f p offset piece d) k (rw same u) ∙ same))
+      (λ e. rw e)
+
+-- of the slots a write changes only free ones
+pub write-used : (P f position : ℕ) (bytes : List ℕ) (d : Device) (k : ℕ) → isFree (getD (d .cache .slots) k freeSlot) ≡ false
+    → getD (write P f position bytes d .left .cache .slots) k freeSlot ≡ getD (d .cache .slots) k freeSlot
+unfolding grown
+write-used P f position bytes d k u =
+    let e = pages-used P f P position bytes d k u in
+    write-by P f position bytes d (λ r. getD (r .left .cache .slots) k freeSlot ≡ getD (d .cache .slots) k freeSlot)
+    (λ _ lo hi. refl)
+    (λ ad room. cases (eqb (putPages P f P position bytes d .count) 0) (λ z. rw z e) (λ z. rw z e))
+
+-- ---- pages that a run of bytes reaches
+
+-- of n bytes from the position on, at least one falls into page q
+abbrev pub reached : ℕ → ℕ → ℕ → Bool
+reached position n q = ltb (max position (pageBytes * q)) (min (position + n) (pageBytes * suc q))
+
+or-true : (b : Bool) → b || true ≡ true
+or-true true = refl
+or-true false = refl
+
+or-false : (b : Bool) → b ≡ b || false
+or-false true = refl
+or-false false = refl
+
+reached-none : (position q : ℕ) (b : Bool) → b ≡ b || reached position 0 q
+reached-none position q b = rw (le-ltb (max position (pageBytes * q)) (min (position + 0) (pageBytes * suc q)) (omega arith)) (or-false b)
+
+-- k bytes into the page that the position is in, and c more from the next page on
+reached-own : (position k c : ℕ) (b : Bool) → 0 < k → b || reached position (k + c) (position / pageBytes) ≡ true
+reached-own position k c b h =
+    rw (lt-ltb (max position (pageBytes * (position / pageBytes))) (min (position + (k + c)) (pageBytes * suc (position / pageBytes))) (omega arith)) (or-true b)
+
+reached-more : (position k c q : ℕ) → q ≢ position / pageBytes → k ≤ pageBytes - position % pageBytes → (k < pageBytes - position % pageBytes → c ≡ 0)
+    → reached (pageBytes * suc (position / pageBytes)) c q ≡ reached position (k + c) q
+reached-more position k c q ne most short =
+    split-lt (max (pageBytes * suc (position / pageBytes)) (pageBytes * q)) (min (pageBytes * suc (position / pageBytes) + c) (pageBytes * suc q))
+    (λ l.
+    split-lt k (pageBytes - position % pageBytes)
+    (λ h. absurd (omega (arith, short h)))
+    (λ h. rw (lt-ltb _ _ l, lt-ltb (max position (pageBytes * q)) (min (position + (k + c)) (pageBytes * suc q)) (omega arith))))
+    (λ l.
+    split-lt k (pageBytes - position % pageBytes)
+    (λ h. rw (le-ltb _ _ l, le-ltb (max position (pageBytes * q)) (min (position + (k + c)) (pageBytes * suc q)) (omega (arith, short h))))
+    (λ h. rw (le-ltb _ _ l, le-ltb (max position (pageBytes * q)) (min (position + (k + c)) (pageBytes * suc q)) (omega arith))))
+
 module _ (P : ℕ) where
   -- what a page step needs of a device
   pub record Framed (d : Device) : Type 0 where
@@ -176,7 +248,7 @@ module _ (P : ℕ) where
       cached-slot : slotOf (cachePage P f p d) f p ≡ firstFree d
       unfolding cachePage
       cached-slot =
-          first-set-here (holds f p) (d .cache .slots) (firstFree d) (record { used = true; file = f; page = p })
+          first-set-here (holds f p) (d .cache .slots) (firstFree d) (usedSlot f p)
           (rw (eq-eqb f f refl, eq-eqb p p refl)) (omega (arith, x .slots .count)) (omega (arith, x .slots .count))
 
       cached-framed : Framed (cachePage P f p d)
@@ -211,7 +283,7 @@ module _ (P : ℕ) where
       unfolding cachePage
       cached-other g i ne =
           let q : ℕ = i / pageBytes in
-          let y : Slot = record { used = true; file = f; page = p } in
+          let y : Slot = usedSlot f p in
           current-same P d (cachePage P f p d) g i
           (first-set (holds g (i / pageBytes)) (d .cache .slots) (firstFree d) y freeSlot (holds-one f p g (i / pageBytes) y refl refl ne)
           (free-holds g (i / pageBytes) (getD (d .cache .slots) (firstFree d) freeSlot) free))
@@ -299,26 +371,28 @@ module _ (P : ℕ) where
           others = λ g i ne. y .others g i ne ∙ same g i;
         }))
 
-    -- it caches no other page
-    put-cached : hasSlot d f p ≡ true → (g q : ℕ) → isCached (putPage P f p offset bytes d) g q ≡ true → (isCached d g q ≡ true) ⊎ ((g ≡ f) × (q ≡ p))
-    unfolding putPage patchPage cachePage
-    put-cached room g q =
+    -- it caches this page and no other
+    put-cached : hasSlot d f p ≡ true → isCached (putPage P f p offset bytes d) f p ≡ true
+    unfolding putPage patchPage
+    put-cached room =
         split-lt (slotOf d f p) slotCount
-        (λ l. rw (lt-ltb _ _ l) (λ h. inl h))
+        (λ l. rw (lt-ltb _ _ l, lt-ltb _ _ l))
         (λ l.
         let free : firstFree d < slotCount = ltb-true _ _ (rw (le-ltb _ _ l) at room) in
-        let y : Slot = record { used = true; file = f; page = p } in
-        rw (le-ltb _ _ l)
-        (λ h.
-        split-eq g f
-        (λ eg. split-eq q p (λ eq. inr (eg, eq)) (λ ne. inl (rw (apart free g q (λ e. ne (e .1))) at h)))
-        (λ ne. inl (rw (apart free g q (λ e. ne (e .0))) at h))))
+        rw (le-ltb _ _ l, cached-slot d x f p hf hp l free, lt-ltb _ _ free))
+
+    put-cached-other : hasSlot d f p ≡ true → (g q : ℕ) → ((g ≡ f) × (q ≡ p) → ⊥) → isCached (putPage P f p offset bytes d) g q ≡ isCached d g q
+    unfolding putPage patchPage cachePage
+    put-cached-other room g q ne =
+        split-lt (slotOf d f p) slotCount
+        (λ l. rw (lt-ltb _ _ l))
+        (λ l. rw (le-ltb _ _ l, apart (ltb-true _ _ (rw (le-ltb _ _ l) at room)) g q ne))
       where
         apart : firstFree d < slotCount → (g q : ℕ) → ((g ≡ f) × (q ≡ p) → ⊥)
-            → firstIndex (holds g q) (set (d .cache .slots) (firstFree d) (record { used = true; file = f; page = p })) ≡ slotOf d g q
+            → firstIndex (holds g q) (set (d .cache .slots) (firstFree d) (usedSlot f p)) ≡ slotOf d g q
         apart l g q ne =
-            first-set (holds g q) (d .cache .slots) (firstFree d) (record { used = true; file = f; page = p }) freeSlot
-            (holds-one f p g q (record { used = true; file = f; page = p }) refl refl ne)
+            first-set (holds g q) (d .cache .slots) (firstFree d) (usedSlot f p) freeSlot
+            (holds-one f p g q (usedSlot f p) refl refl ne)
             (free-holds g q (getD (d .cache .slots) (firstFree d) freeSlot) (first-free-was-free d (omega (arith, x .slots .count))))
 
   -- ---- page after page
@@ -357,14 +431,14 @@ module _ (P : ℕ) where
   pub record Wrote (f position : ℕ) (bytes : List ℕ) (d : Device) (w : Written) : Type 0 where
     pub most : w .count ≤ length bytes
     pub puts : Puts f position (w .count) bytes d (w .device)
-    -- a page is cached that was, or that a byte was put into
-    pub cached : (g q : ℕ) → isCached (w .device) g q ≡ true
-        → (isCached d g q ≡ true) ⊎ ((g ≡ f) × (0 < w .count) × (position < pageBytes * suc q) × (pageBytes * q < position + w .count))
+    -- a page of the file is cached that was, or that a byte was put into
+    pub cached : (q : ℕ) → isCached (w .device) f q ≡ isCached d f q || reached position (w .count) q
+    pub cached-other : (g q : ℕ) → g ≢ f → isCached (w .device) g q ≡ isCached d g q
 
   pub put-pages : (f : ℕ) → f < files → (n position : ℕ) (bytes : List ℕ) (d : Device) → Framed d → position + length bytes ≤ fileBytes P
       → Wrote f position bytes d (putPages P f n position bytes d)
-  put-pages f hf zero position bytes d x fit = record { most = omega arith; puts = puts-none f position bytes d x; cached = λ g q h. inl h }
-  put-pages f hf (suc n) position [] d x fit = record { most = omega arith; puts = puts-none f position [] d x; cached = λ g q h. inl h }
+  put-pages f hf zero position bytes d x fit = record { most = omega arith; puts = puts-none f position bytes d x; cached = λ q. reached-none position q (isCached d f q); cached-other = λ g q ne. refl }
+  put-pages f hf (suc n) position [] d x fit = record { most = omega arith; puts = puts-none f position [] d x; cached = λ q. reached-none position q (isCached d f q); cached-other = λ g q ne. refl }
   put-pages f hf (suc n) position (b ∷ bs) d x fit =
       let bytes : List ℕ = b ∷ bs in
       let p : ℕ = position / pageBytes in
@@ -381,17 +455,20 @@ module _ (P : ℕ) where
       record {
         most = omega (arith, rest .most);
         puts = puts-more f position m (pageBytes * suc p) _ (b ∷ bs) d _ _ (omega arith) (rest .most) one (rest .puts);
-        cached = λ g q h.
-            elim (rest .cached g q h) [
-              | inl y ↦
-                  (elim (put-cached d x f p offset (take m (b ∷ bs)) hf (omega arith) (omega arith) e g q y) [
-                    | inl z ↦ inl z
-                    | inr z ↦ inr (z .0, omega arith, omega (arith, z .1), omega (arith, z .1))
-                  ])
-              | inr y ↦ inr (y .0, omega arith, omega (arith, y .2), omega (arith, y .2, y .3, rest .most))
-            ];
+        cached = λ q.
+            rest .cached q
+            ∙ split-eq q (position / pageBytes)
+            (λ eq.
+            rw (eq, put-cached d x f p offset (take m (b ∷ bs)) hf (omega arith) (omega arith) e)
+            (sym (reached-own position (length (take m (b ∷ bs))) _ (isCached d f p) (omega arith))))
+            (λ ne.
+            rw (put-cached-other d x f p offset (take m (b ∷ bs)) hf (omega arith) (omega arith) e f q (λ z. ne (z .1)))
+            (ap (λ (y : Bool). isCached d f q || y)
+            (reached-more position (length (take m (b ∷ bs))) _ q ne (omega arith) (λ h. (omega (arith, rest .most))))));
+        cached-other = λ g q ne.
+            rest .cached-other g q ne ∙ put-cached-other d x f p offset (take m (b ∷ bs)) hf (omega arith) (omega arith) e g q (λ z. ne (z .0));
       }))
-      (λ e. rw e (record { most = omega arith; puts = puts-none f position (b ∷ bs) d x; cached = λ g q h. inl h }))
+      (λ e. rw e (record { most = omega arith; puts = puts-none f position (b ∷ bs) d x; cached = λ q. reached-none position q (isCached d f q); cached-other = λ g q ne. refl }))
 
   -- it stops only where the rest would be NO ROOM: at the start of a page that is not cached and has no slot
   pub record Stopped (f position : ℕ) (bytes : List ℕ) (w : Written) : Type 0 where
@@ -454,8 +531,9 @@ module _ (P : ℕ) where
     pub below : (i : ℕ) → i < position → currentAt P c f i ≡ currentAt P d f i
     pub above : (i : ℕ) → position + n ≤ i → currentAt P c f i ≡ currentAt P d f i
     pub others : (g i : ℕ) → g ≢ f → currentAt P c g i ≡ currentAt P d g i
-    -- a page is cached that was, or that a byte was put into
-    pub cached : (g q : ℕ) → isCached c g q ≡ true → (isCached d g q ≡ true) ⊎ ((g ≡ f) × (0 < n) × (position < pageBytes * suc q) × (pageBytes * q < position + n))
+    -- a page of the file is cached that was, or that a byte was put into
+    pub cached : (q : ℕ) → isCached c f q ≡ isCached d f q || reached position n q
+    pub cached-other : (g q : ℕ) → g ≢ f → isCached c g q ≡ isCached d g q
 
   module _ (d : Device) (x : Fit P d) (f position : ℕ) (bytes : List ℕ) (w : Written) (hf : f < files) (wrote : Wrote f position bytes d w)
       (s : SameBut d (w .device)) (fits : position + length bytes ≤ fileBytes P) where
@@ -484,6 +562,7 @@ module _ (P : ℕ) where
           above = p .above;
           others = p .others;
           cached = wrote .cached;
+          cached-other = wrote .cached-other;
         }))
         (λ ne.
         let m : ℕ = max (logicalAt (w .device) f) (position + w .count) in
@@ -508,6 +587,7 @@ module _ (P : ℕ) where
           above = p .above;
           others = p .others;
           cached = wrote .cached;
+          cached-other = wrote .cached-other;
         }))
 
   -- a write that is admitted
@@ -532,7 +612,7 @@ module _ (P f p : ℕ) (d : Device) where
   pub cached-in : length (d .cache .slots) ≡ slotCount → slotCount ≤ slotOf d f p → firstFree d < slotCount → slotOf (cachePage P f p d) f p ≡ firstFree d
   unfolding cachePage
   cached-in l none room =
-      first-set-here (holds f p) (d .cache .slots) (firstFree d) (record { used = true; file = f; page = p })
+      first-set-here (holds f p) (d .cache .slots) (firstFree d) (usedSlot f p)
       (rw (eq-eqb f f refl, eq-eqb p p refl)) (omega arith) (omega arith)
 
   -- the page is cached in slot k, and is patched there
@@ -592,6 +672,12 @@ module _ (P f : ℕ) where
       (ap (λ (j : ℕ). record { device = putPage P f (position / pageBytes) (position % pageBytes) (take k (b ∷ bs)) d; count = j + 0 }) (omega arith)))
 
 -- ---- the ends of a write
+
+-- a write of no bytes leaves the device as it came
+pub write-idle : (P f position : ℕ) (d : Device) → write P f position [] d .left ≡ d
+unfolding grown
+write-idle P f position d =
+    write-by P f position [] d (λ r. r .left ≡ d) (λ k lo hi. refl) (λ ad room. rw (pages-none P f P position [] d refl))
 
 -- no more bytes are put down than there are
 pub pages-most : (P f n position : ℕ) (bytes : List ℕ) (d : Device) → putPages P f n position bytes d .count ≤ length bytes

@@ -1,6 +1,6 @@
 -- The device: the media, the page frames beside it, and the cache state. Document 01: the box, the held bytes, the books.
 use Prim.Native.Nat.{ℕ, _*_}
-use mathlib.Core.Bool.{Bool, false, not, cond, _&&_}
+use mathlib.Core.Bool.{Bool, cond, _&&_}
 use mathlib.Core.List.{List}
 use lib.Dec.{eqb, ltb}
 use lib.ListN.{getD, set, replicate}
@@ -33,14 +33,21 @@ frameStart k = pageBytes * k
 -- ---- slots
 
 abbrev pub freeSlot : Slot
-freeSlot = record { used = false; file = 0; page = 0 }
+freeSlot = record { used = 0; file = 0; page = 0 }
+
+-- the slot of page p of file f
+abbrev pub usedSlot : ℕ → ℕ → Slot
+usedSlot f p = record { used = 1; file = f; page = p }
 
 abbrev pub isFree : Slot → Bool
-isFree s = not (s .used)
+isFree s = eqb (s .used) 0
+
+abbrev pub isUsed : Slot → Bool
+isUsed s = eqb (s .used) 1
 
 -- the slot holds page p of file f
 abbrev pub holds : ℕ → ℕ → Slot → Bool
-holds f p s = s .used && (eqb (s .file) f && eqb (s .page) p)
+holds f p s = isUsed s && (eqb (s .file) f && eqb (s .page) p)
 
 -- the slot that holds page p of file f, or slotCount where none does
 abbrev pub slotOf : Device → ℕ → ℕ → ℕ
@@ -56,7 +63,7 @@ firstFree d = firstIndex isFree (d .cache .slots)
 
 -- a slot, freed where its page is among those
 unfoldable pub freeWhere : (ℕ → ℕ → Bool) → Slot → Slot
-freeWhere among s = cond (s .used && among (s .file) (s .page)) freeSlot s
+freeWhere among s = cond (isUsed s && among (s .file) (s .page)) freeSlot s
 
 -- ---- the cache state
 

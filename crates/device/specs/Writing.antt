@@ -8,7 +8,7 @@ use Rattle.answer.specs.Coded.{done, NO-ROOM}
 use Rattle.answer.specs.Admission.{test}
 use Rattle.memory.specs.Bytes.{zeros, part, overwrite}
 use Rattle.media.specs.Geometry.{pageBytes, fileBytes, pageStart}
-use Rattle.device.specs.Device.{Device, deviceOf, slotCount, frameStart, slotOf, isCached, firstFree, logicalAt, floorAt, withSlots, withLogical}
+use Rattle.device.specs.Device.{Device, deviceOf, slotCount, frameStart, slotOf, isCached, firstFree, usedSlot, logicalAt, floorAt, withSlots, withLogical}
 use Rattle.device.specs.Admission.{Result, give, admit, fileTests}
 
 -- page p of file f is cached, or there is a slot for it
@@ -28,7 +28,7 @@ unfoldable pub cachePage : ℕ → ℕ → ℕ → Device → Device
 cachePage P f p d =
     deviceOf (d .media)
     (overwrite (d .frames) (frameStart (firstFree d)) (filledPage P d f p))
-    (withSlots (d .cache) (set (d .cache .slots) (firstFree d) (record { used = true; file = f; page = p })))
+    (withSlots (d .cache) (set (d .cache .slots) (firstFree d) (usedSlot f p)))
 
 -- the bytes are laid into the frame of page p, which is cached, from the offset on
 unfoldable pub patchPage : ℕ → ℕ → ℕ → List ℕ → Device → Device

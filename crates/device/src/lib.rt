@@ -1,17 +1,18 @@
-// The device: the media, page frames over it, and the cache state. Here are the types of its code, and the free slot; specs/ has
+// The device: the media, page frames over it, and the cache state. Here are the types of its code, and the down state; specs/ has
 // its calls as definitions, and proofs/ what follows from them.
 //
 // The page frames are borrowed beside the cache state, SLOTS × 256 bytes; slot k has the bytes from 256 × k on.
 use answer::Answer;
 ghost use mathlib.Core.Path.{_≡_};
-ghost use Rattle.device.specs.Device.{freeSlot, noSlots};
+ghost use Rattle.device.specs.Device.{freeSlot, noSlots, downState};
 
 // At most this many pages are cached, over all files together.
 pub const SLOTS: usize = 24;
 
 // A slot of the cache: used or free, and the page that it holds. A free slot carries file 0 and page 0.
 pub struct Slot {
-    pub used: bool,
+    // 1 where it is used, 0 where it is free.
+    pub used: u8,
     pub file: u8,
     pub page: u8,
 }
@@ -51,7 +52,7 @@ pub fn free_slot() -> Slot
     ensures { λ r. ⌜ r ≡ freeSlot ⌝ }
 {
     Slot {
-        used: false,
+        used: 0,
         file: 0,
         page: 0,
     }
@@ -62,4 +63,16 @@ pub fn no_slots() -> [Slot; SLOTS]
     ensures { λ r. ⌜ r ≡ noSlots ⌝ }
 {
     [free_slot(); SLOTS]
+}
+
+// The state while down.
+pub fn down_state() -> CacheState
+    ensures { λ r. ⌜ r ≡ downState ⌝ }
+{
+    CacheState {
+        mounted: 0,
+        slots: no_slots(),
+        logical: [0; media::FILES],
+        floor: [0; media::FILES],
+    }
 }

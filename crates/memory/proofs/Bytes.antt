@@ -127,15 +127,6 @@ overwrite-join-at (x ∷ xs) zero (y ∷ ys) zs = rw add-suc (ap (λ (l : List �
 pub overwrite-join : (xs ys zs : List ℕ) → overwrite xs 0 (ys ++ zs) ≡ overwrite (overwrite xs 0 ys) (length ys) zs
 overwrite-join xs ys zs = rw zero-add at (overwrite-join-at xs 0 ys zs)
 
--- one list over another, at the same place
-pub overwrite-over : (xs : List ℕ) (a : ℕ) (ys zs : List ℕ) → length zs ≤ length ys → overwrite (overwrite xs a ys) a zs ≡ overwrite xs a (overwrite ys 0 zs)
-overwrite-over [] a ys zs h = refl
-overwrite-over (x ∷ xs) (suc a) ys zs h = ap (λ (l : List ℕ). x ∷ l) (overwrite-over xs a ys zs h)
-overwrite-over (x ∷ xs) zero [] [] h = refl
-overwrite-over (x ∷ xs) zero [] (z ∷ zs) h = absurd (not-suc-le-zero h)
-overwrite-over (x ∷ xs) zero (y ∷ ys) [] h = refl
-overwrite-over (x ∷ xs) zero (y ∷ ys) (z ∷ zs) h = ap (λ (l : List ℕ). z ∷ l) (overwrite-over xs zero ys zs (le-of-suc-le-suc h))
-
 -- a list of one byte, and the first byte of any
 pub overwrite-one : (xs : List ℕ) (a b : ℕ) → overwrite xs a (b ∷ []) ≡ set xs a b
 overwrite-one [] a b = refl

@@ -1,7 +1,6 @@
 -- The invariant of a run: file by file, what the model file knows of the device.
 use mathlib.Core.Path.{_≡_, refl, sym, _∙_, subst}
 use mathlib.Core.Logic.{_≢_, inl}
-use mathlib.Core.Bool.{true, false}
 use mathlib.Core.List.{List}
 use Prim.Native.Nat.{ℕ, _≤_, _<_}
 use native.Mathlib.Omega.{arith}
@@ -17,10 +16,12 @@ use Rattle.device.specs.Device.{Device, isCached, logicalAt, floorAt}
 use Rattle.device.specs.Current.{currentAt}
 use Rattle.device.proofs.Sound.{Fit}
 use Rattle.device.proofs.Admission.{Mountable}
-use Rattle.model.specs.ModelFile.{ModelFile, cachedBy}
+use Rattle.model.specs.ModelFile.{ModelFile}
+use Rattle.model.specs.CacheByLog.{cachedIn}
 use Rattle.model.specs.Run.{Files, change}
 use Rattle.model.specs.States.{replay, CrashState}
 use Rattle.model.specs.Store.{storeMedia}
+use Rattle.model.proofs.ModelFile.{allCarriedOut}
 
 -- file f is changed, the others stay
 pub changed : (Q : ℕ → ModelFile → Type 0) (f : ℕ) (h : ModelFile → ModelFile) (fs : Files) → Q f (h (fs f))
@@ -45,14 +46,16 @@ module _ (P : ℕ) where
     pub high : (i : ℕ) → i < floorAt d g → i < fileBytes P → boundary ≤ i → getD file i 0 ≡ byteAt P (d .media) g i
 
   -- while mounted: the current bytes are those of the model, also past the logical size, where both are 0; the media holds the
-  -- durable bytes, and zeros after them; and the log replayed up to any boundary is a mix of the two
+  -- durable bytes, and zeros after them; the log replayed up to any boundary is a mix of the two; the whole log makes the current
+  -- bytes of the durable ones; and it says which pages are cached
   pub record Mounted (d : Device) (g : ℕ) (m : ModelFile) : Type 0 where
     pub current-size : length (m .current) ≡ logicalAt d g
     pub current-is : (i : ℕ) → i < fileBytes P → getD (m .current) i 0 ≡ currentAt P d g i
     pub durable-size : length (m .durable) ≡ sizeAt (d .media) g
     pub durable-is : (i : ℕ) → i < fileBytes P → getD (m .durable) i 0 ≡ byteAt P (d .media) g i
     pub mixed : (boundary : ℕ) → Mixed d g boundary (replay boundary (m .durable) (m .log))
-    pub cached : (q : ℕ) → isCached d g q ≡ true → cachedBy (m .log) q false ≡ true
+    pub carried : allCarriedOut (m .durable) (m .log) ≡ m .current
+    pub cached : (q : ℕ) → isCached d g q ≡ cachedIn m q
 
   -- ---- of the device
 
@@ -73,7 +76,7 @@ module _ (P : ℕ) where
     pub logical-is : logicalAt c g ≡ logicalAt d g
     pub floor-is : floorAt c g ≡ floorAt d g
     pub current-is : (i : ℕ) → i < fileBytes P → currentAt P c g i ≡ currentAt P d g i
-    pub cached-was : (q : ℕ) → isCached c g q ≡ true → isCached d g q ≡ true
+    pub cached-is : (q : ℕ) → isCached c g q ≡ isCached d g q
 
   pub same-found : {d c : Device} {g : ℕ} {m : ModelFile} → SameStored d c g → Found d g m → Found c g m
   same-found s x = record {
@@ -96,7 +99,8 @@ module _ (P : ℕ) where
           low = λ i l hi lt. y .low i (rw (s .floor-is) at l) hi lt ∙ sym (s .current-is i hi);
           high = λ i l hi ge. y .high i (rw (s .floor-is) at l) hi ge ∙ sym (s .stored .byte-is i hi);
         };
-    cached = λ q h. x .cached q (s .cached-was q h);
+    carried = x .carried;
+    cached = λ q. s .cached-is q ∙ x .cached q;
   }
 
   -- a mounted file is found as its durable bytes

@@ -1,13 +1,14 @@
 pub mod ModelFile
 pub mod Run
+pub mod Room
 pub mod Invariant
 pub mod Writes
 pub mod Truncates
 pub mod Syncs
+pub mod SyncByLog
 pub mod Mounts
 pub mod Posix
+pub mod Work
 pub mod Refusals
 pub mod Format
 pub mod Claims
-pub mod RuledOut
-pub mod Edges

@@ -11,10 +11,10 @@ use lib.Seq.{getD-drop, getD-append-add, take-all, take-length}
 use borrow.Author.Tests.{lt-ltb, le-ltb}
 use Rattle.memory.proofs.Cases.{split-lt, split-eq}
 use Rattle.media.specs.Geometry.{pageBytes}
-use Rattle.model.specs.ModelFile.{Entry, ModelFile, lay, posixWrite, posixTruncate, Becomes, cachedAfter, cachedBy, afterWrite}
+use Rattle.model.specs.ModelFile.{Entry, ModelFile, lay, posixWrite, posixTruncate, Becomes, afterWrite}
+use Rattle.model.specs.CacheByLog.{carriedOut, cachedAfter, cachedBy, smallest}
 use Rattle.model.specs.ModelFile.Entry.{written, truncated}
 use Rattle.model.specs.States.{redo, replay, CrashState}
-use Rattle.model.specs.Floor.{smallest}
 
 -- ---- truncate
 
@@ -90,9 +90,19 @@ pub replay-one-more : (boundary : ℕ) (file : List ℕ) (log : List Entry) (e :
 replay-one-more boundary file [] e = refl
 replay-one-more boundary file (x ∷ log) e = replay-one-more boundary (redo boundary file x) log e
 
-pub cached-one-more : (log : List Entry) (e : Entry) (p : ℕ) (before : Bool) → cachedBy (log ++ (e ∷ [])) p before ≡ cachedAfter e p (cachedBy log p before)
-cached-one-more [] e p before = refl
-cached-one-more (x ∷ log) e p before = cached-one-more log e p (cachedAfter x p before)
+-- every entry carried out
+abbrev pub allCarriedOut : List ℕ → List Entry → List ℕ
+allCarriedOut file [] = file
+allCarriedOut file (e ∷ log) = allCarriedOut (carriedOut file e) log
+
+pub carried-one-more : (file : List ℕ) (log : List Entry) (e : Entry) → allCarriedOut file (log ++ (e ∷ [])) ≡ carriedOut (allCarriedOut file log) e
+carried-one-more file [] e = refl
+carried-one-more file (x ∷ log) e = carried-one-more (carriedOut file x) log e
+
+pub cached-one-more : (file : List ℕ) (log : List Entry) (e : Entry) (p : ℕ) (before : Bool)
+    → cachedBy file (log ++ (e ∷ [])) p before ≡ cachedAfter (λ i. getD (allCarriedOut file log) i 0) e p (cachedBy file log p before)
+cached-one-more file [] e p before = refl
+cached-one-more file (x ∷ log) e p before = cached-one-more (carriedOut file x) log e p (cachedAfter (λ i. getD file i 0) x p before)
 
 -- a replay is as long as the smallest truncate
 length-redone : (boundary : ℕ) (file : List ℕ) (n : ℕ) (bytes : List ℕ) → length (redo boundary file (written n bytes)) ≡ length file

@@ -5,7 +5,7 @@ use mathlib.Core.List.{List}
 use Prim.Native.Nat.{ℕ, _/_, _≤_, _<_}
 use native.Mathlib.Omega.{arith}
 use lib.ListN.{length, getD, List·getD-eq-default}
-use borrow.Author.Tests.{ne-eqb, ltb-true}
+use borrow.Author.Tests.{ne-eqb, le-ltb}
 use Rattle.memory.proofs.Cases.{split-lt}
 use Rattle.media.specs.Geometry.{files, pageBytes, fileBytes}
 use Rattle.media.specs.Write.{Media, byteAt, sizeAt, applyAll}
@@ -86,7 +86,7 @@ module _ (P : ℕ) (d : Device) (m : Media) (l : Left P d m) where
         (λ h. current-media P c g i (i / pageBytes) refl (none-cached g (i / pageBytes)) h)
         (λ h. current-zero P c g i (i / pageBytes) refl (none-cached g (i / pageBytes)) h ∙ sym (z .zero-past g i hg h hi))
 
-    done-fit : Fit P c
+    pub done-fit : Fit P c
     done-fit = record {
       bytes = l .bytes;
       slots = none-fit P;
@@ -122,7 +122,8 @@ module _ (P : ℕ) (d : Device) (m : Media) (l : Left P d m) where
           low = λ i h hi b. media-byte g hg i hi ∙ sym (current-byte g hg i hi);
           high = λ i h hi b. media-byte g hg i hi;
         };
-        cached = λ q h. absurd (omega (arith, none-cached g q, ltb-true (slotOf c g q) slotCount h));
+        carried = refl;
+        cached = λ q. le-ltb (slotOf c g q) slotCount (none-cached g q);
       };
     }
 

@@ -18,7 +18,7 @@ use Rattle.device.specs.Syncing.{syncPlan}
 use Rattle.device.proofs.Sound.{Fit}
 use Rattle.device.proofs.Admission.{Mountable}
 use Rattle.device.proofs.Plan.{Own, all-take, own-other-byte, own-other-size}
-use Rattle.device.proofs.Syncing.{sync-by, plan-own, Ready, CutAt, Stored, boundary, sync-cut, sync-done, syncedDevice, synced-logical, synced-floor, synced-floor-other, synced-byte-other, synced-size-other, synced-own, synced-other, synced-cached, synced-fit}
+use Rattle.device.proofs.Syncing.{sync-by, plan-own, Ready, CutAt, Stored, boundary, sync-cut, sync-done, syncedDevice, synced-logical, synced-floor, synced-floor-other, synced-byte-other, synced-size-other, synced-own, synced-other, synced-cached, synced-cached-other, synced-fit}
 use Rattle.model.specs.ModelFile.{afterSync}
 use Rattle.model.specs.Run.{Files, change, feed}
 use Rattle.model.specs.Run.Call.{sync}
@@ -123,7 +123,7 @@ module _ (P : ℕ) (d : Device) (fs : Files) (f : ℕ) (inv : Invariant P d fs) 
     logical-is = synced-logical P d f r g;
     floor-is = synced-floor-other P d f r g ne;
     current-is = λ i hi. synced-other P d f r g i ne hg hi;
-    cached-was = λ q h. synced-cached P d f r g q h .0;
+    cached-is = λ q. synced-cached-other P d f r g q ne;
   }
 
   done-found : Found P e f (afterSync (fs f))
@@ -149,12 +149,13 @@ module _ (P : ℕ) (d : Device) (fs : Files) (f : ℕ) (inv : Invariant P d fs) 
           low = λ i l hi b. x .current-is i hi ∙ sym (current-stays i hi);
           high = λ i l hi b. x .current-is i hi ∙ sym (stored .byte i hi);
         };
-        cached = λ q h. absurd (synced-cached P d f r f q h .1 refl);
+        carried = refl;
+        cached = λ q. synced-cached P d f r q;
       }
 
   done-keeps : Invariant P e (change f afterSync fs)
   done-keeps =
-      let y : Fit P e = synced-fit P d f r in
+      let y : Fit P e = synced-fit P d (r .fit) (r .frames) f (r .file) in
       record {
         mountable = record { bytes = y .bytes; sizes = y .sizes .stored-count; fit = y .sizes .stored-fits };
         found = changed (Found P e) f afterSync fs done-found (λ g ne hg. same-found P (done-other g ne hg .stored) (inv .found g hg));

@@ -3,25 +3,25 @@ use mathlib.Core.Path.{_≡_, refl, sym, _∙_}
 use mathlib.Core.Logic.{_≢_}
 use mathlib.Core.Bool.{false}
 use mathlib.Core.List.{List}
-use Prim.Native.Nat.{ℕ, _*_, _≤_, _<_, min}
+use Prim.Native.Nat.{ℕ, _≤_, _<_, min}
 use native.Mathlib.Omega.{arith}
 use lib.ListN.{length}
 use borrow.Author.Tests.{leb-true, ne-eqb, lt-ltb, le-ltb}
 use Rattle.memory.proofs.Cases.{split-lt}
-use Rattle.media.specs.Geometry.{files, pageBytes, fileBytes}
+use Rattle.media.specs.Geometry.{files, fileBytes}
 use Rattle.device.specs.Device.{Device, framesBytes, floorAt}
 use Rattle.device.specs.Current.{currentAt}
 use Rattle.device.specs.Admission.{Result}
 use Rattle.device.specs.Truncating as Truncating
 use Rattle.device.specs.Truncating.{truncated}
 use Rattle.device.proofs.Sound.{Fit}
-use Rattle.device.proofs.Truncating.{truncate-by, truncated-logical, truncated-floor, truncated-sizes-other, truncated-fit, truncated-media, truncated-below, truncated-past, truncated-other, truncated-cached}
+use Rattle.device.proofs.Truncating.{truncate-by, truncated-logical, truncated-floor, truncated-sizes-other, truncated-fit, truncated-media, truncated-below, truncated-past, truncated-other, truncated-cached, truncated-cached-other}
 use Rattle.model.specs.ModelFile.{ModelFile, afterTruncate}
 use Rattle.model.specs.ModelFile.Entry.{truncated as truncatedTo}
 use Rattle.model.specs.Run.{Files, change, feed}
 use Rattle.model.specs.Run.Call.{truncate}
 use Rattle.model.specs.States.{redo, replay}
-use Rattle.model.proofs.ModelFile.{length-truncate, truncate-below, truncate-past, replay-one-more, cached-one-more}
+use Rattle.model.proofs.ModelFile.{length-truncate, truncate-below, truncate-past, replay-one-more, carried-one-more, cached-one-more}
 use Rattle.model.proofs.Invariant.{changed, Found, Mixed, Mounted, Invariant, SameStored, SameFile, same-found, same-mounted, mounted-found}
 
 module _ (P : ℕ) (d : Device) (x : Fit P d) (frames : length (d .frames) ≡ framesBytes) (f n : ℕ) (hf : f < files) (hn : n ≤ fileBytes P) where
@@ -37,7 +37,7 @@ module _ (P : ℕ) (d : Device) (x : Fit P d) (frames : length (d .frames) ≡ f
     logical-is = truncated-sizes-other P d x frames f n hf g ne .0;
     floor-is = truncated-sizes-other P d x frames f n hf g ne .1;
     current-is = λ i hi. truncated-other P d x frames f n hf g i ne;
-    cached-was = λ q h. truncated-cached P d x frames f n hf g q h .0;
+    cached-is = λ q. truncated-cached-other P d x frames f n hf g q ne;
   }
 
   kept : (i : ℕ) → i < n → currentAt P c f i ≡ currentAt P d f i
@@ -73,9 +73,8 @@ module _ (P : ℕ) (d : Device) (x : Fit P d) (frames : length (d .frames) ≡ f
     mixed = λ boundary.
         rw (replay-one-more boundary (m .durable) (m .log) (truncatedTo n))
         (own-mixed (replay boundary (m .durable) (m .log)) boundary (y .mixed boundary));
-    cached = λ q h.
-        let z = truncated-cached P d x frames f n hf f q h in
-        rw (cached-one-more (m .log) (truncatedTo n) q false, y .cached q (z .0), lt-ltb (pageBytes * q) n (z .1 refl));
+    carried = rw (carried-one-more (m .durable) (m .log) (truncatedTo n), y .carried);
+    cached = λ q. truncated-cached P d x frames f n hf q ∙ rw (cached-one-more (m .durable) (m .log) (truncatedTo n) q false, y .cached q);
   }
 
   truncated-keeps : (fs : Files) → d .cache .mounted ≡ 1 → Invariant P d fs → Invariant P c (change f (afterTruncate n) fs)

@@ -1,31 +1,31 @@
 -- A write keeps the invariant.
 use mathlib.Core.Path.{_≡_, refl, sym, _∙_}
-use mathlib.Core.Logic.{_≢_, inl, inr}
+use mathlib.Core.Logic.{_≢_}
 use mathlib.Core.Bool.{Bool, true, false, _||_}
 use mathlib.Core.List.{List}
 use Prim.Native.Nat.{ℕ, suc, _*_, _+_, _-_, _≤_, _<_, min, max}
 use native.Mathlib.Omega.{arith}
 use lib.ListN.{length, getD, take, length-take}
 use lib.Seq.{getD-take, length-take-le}
-use borrow.Author.Tests.{lt-ltb, leb-true, eq-eqb, ne-eqb}
+use borrow.Author.Tests.{le-ltb, leb-true, eq-eqb, ne-eqb}
 use Rattle.memory.proofs.Cases.{split-lt, split-eq}
 use Rattle.media.specs.Geometry.{files, pageBytes}
-use Rattle.device.specs.Device.{Device, logicalAt, floorAt}
+use Rattle.device.specs.Device.{Device, isCached, logicalAt, floorAt}
 use Rattle.device.specs.Admission.{Result}
 use Rattle.device.specs.Writing as Writing
 use Rattle.device.proofs.Admission.{Mountable}
 use Rattle.device.proofs.Writing.{write-by, Leaves, write-leaves}
-use Rattle.model.specs.ModelFile.{ModelFile, cachedBy, afterWrite}
+use Rattle.model.specs.ModelFile.{ModelFile, afterWrite}
 use Rattle.model.specs.ModelFile.Entry.{written}
 use Rattle.model.specs.Run.{Files, change, feed}
 use Rattle.model.specs.Run.Call.{write}
 use Rattle.model.specs.States.{redo, replay}
-use Rattle.model.proofs.ModelFile.{length-lay, lay-in, lay-before, lay-after, write-none, write-some, logged-none, logged-some, replay-one-more, cached-one-more}
+use Rattle.model.proofs.ModelFile.{length-lay, lay-in, lay-before, lay-after, write-none, write-some, logged-none, logged-some, replay-one-more, carried-one-more, cached-one-more}
 use Rattle.model.proofs.Invariant.{changed, Found, Mixed, Mounted, Invariant, SameStored, SameFile, same-found, same-mounted, mounted-found}
 
-or-true : (a b : Bool) → b ≡ true → a || b ≡ true
-or-true true b e = refl
-or-true false b e = e
+or-false : (a : Bool) → a || false ≡ a
+or-false true = refl
+or-false false = refl
 
 module _ (P : ℕ) (d c : Device) (f position n : ℕ) (bytes : List ℕ) (hf : f < files) (hn : n ≤ length bytes) (w : Leaves P f position n bytes d c) where
   same-stored : (g : ℕ) → SameStored P d c g
@@ -37,7 +37,7 @@ module _ (P : ℕ) (d c : Device) (f position n : ℕ) (bytes : List ℕ) (hf : 
     logical-is = w .logical-other g ne;
     floor-is = w .floor g;
     current-is = λ i hi. w .others g i ne;
-    cached-was = λ q h. elim (w .cached g q h) [ inl y ↦ y | inr y ↦ absurd (ne (y .0)) ];
+    cached-is = λ q. w .cached-other g q ne;
   }
 
   -- nothing was put down
@@ -50,7 +50,9 @@ module _ (P : ℕ) (d c : Device) (f position n : ℕ) (bytes : List ℕ) (hf : 
         logical-is = rw (eq-eqb n 0 e) at (w .logical);
         floor-is = w .floor f;
         current-is = λ i hi. split-lt i position (λ l. w .below i l) (λ l. w .above i (omega arith));
-        cached-was = λ q h. elim (w .cached f q h) [ inl y ↦ y | inr y ↦ absurd (omega (arith, y .1)) ];
+        cached-is = λ q.
+            w .cached q
+            ∙ rw (le-ltb (max position (pageBytes * q)) (min (position + n) (pageBytes * suc q)) (omega arith)) (or-false (isCached d f q));
       }))
       (λ ne. other-file g ne)
 
@@ -122,12 +124,8 @@ module _ (P : ℕ) (d c : Device) (f position n : ℕ) (bytes : List ℕ) (hf : 
         mixed = λ boundary.
             rw (replay-one-more boundary (m .durable) (m .log) (written position put))
             (own-mixed (replay boundary (m .durable) (m .log)) boundary (x .mixed boundary));
-        cached = λ q h.
-            rw (cached-one-more (m .log) (written position put) q false)
-            (elim (w .cached f q h) [
-              | inl y ↦ rw (x .cached q y)
-              | inr y ↦ or-true (cachedBy (m .log) q false) _ (rw (lt-ltb position (pageBytes * suc q) (y .2), lt-ltb (pageBytes * q) (position + length put) (rw lp (y .3))))
-            ]);
+        carried = rw (carried-one-more (m .durable) (m .log) (written position put), x .carried, write-some (m .current) position put (omega arith));
+        cached = λ q. w .cached q ∙ rw (cached-one-more (m .durable) (m .log) (written position put) q false, x .cached q, lp);
       })
 
   -- all files

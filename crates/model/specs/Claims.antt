@@ -1,23 +1,33 @@
--- The demands of document 00, over any device. specs/Store has the device of this store: read it beside this.
-use Prim.Native.Nat.{ℕ, _+_, _-_, _%_, _≤_, _<_, min}
+-- The demands of document 00, over any store that specs/Run's Interface describes; specs/Store has this one. specs/View says what the
+-- papers ask of a call, specs/Work what a done call does, specs/CacheByLog what the model files say of the cache, and specs/Demands
+-- puts all together.
+use Prim.Native.Nat.{ℕ, _+_, _-_, _/_, _≤_, _<_, min}
 use mathlib.Core.Path.{_≡_}
 use mathlib.Core.Logic.{_≢_, _⊎_}
 use mathlib.Core.Bool.{Bool, true, false, cond}
-use mathlib.Core.List.{List, [], _++_}
-use lib.Dec.{eqb}
-use lib.ListN.{length, drop}
-use Rattle.answer.specs.Coded.{Coded, done, NO-ROOM}
-use Rattle.answer.specs.Admission.{firstRefusal, ifDone}
+use mathlib.Core.List.{List, [], _∷_, _++_}
+use lib.ListN.{length, take}
+use Rattle.answer.specs.Coded.{done, NO-ROOM}
+use Rattle.answer.specs.Admission.{test, firstRefusal}
 use Rattle.memory.specs.Bytes.{zeros, part, overwrite}
 use Rattle.media.specs.Geometry.{files, pageBytes}
-use Rattle.model.specs.ModelFile.{Becomes, cachedBy}
-use Rattle.model.specs.Run.{Call, IsDone, Reply, Interface, World, Event, InEveryRun, AtMounts}
+use Rattle.media.specs.Write.{MediaWrite}
+use Rattle.device.specs.Device.{Device, deviceOf, framesBytes, isCached, logicalAt, floorAt, downState}
+use Rattle.device.specs.Sound.{isSound}
+use Rattle.device.specs.Writing.{hasRoom}
+use Rattle.device.specs.Syncing.{syncPlan}
+use Rattle.device.specs.Looking.{toPageEnd}
+use Rattle.model.specs.ModelFile.{ModelFile, afterWrite, Becomes}
+use Rattle.model.specs.CacheByLog.{cachedIn, floorOf, syncByLog, roomFor}
+use Rattle.model.specs.Run.{Call, IsDone, Reply, Interface, imaged, fileOn, Files, change, World, Event, InEveryRun, AtMounts}
 use Rattle.model.specs.Run.Call.{read, look, write, truncate, sync, mount}
 use Rattle.model.specs.Run.Event.{call, powerLost}
+use Rattle.model.specs.View.{greatest, conditions, plan, Pays, mediaAfter, paying, limits}
+use Rattle.model.specs.Work.{Stops, Works}
 
 -- ---- demand 1: answers
 
--- the output where a call is refused: the buffer of a read as it came
+-- the output of a refusal: the buffer of a read as it came, and nothing else
 abbrev pub asItCame : Call → List ℕ
 asItCame (read f position buffer) = buffer
 asItCame (look f position) = []
@@ -26,99 +36,113 @@ asItCame (truncate f n) = []
 asItCame (sync f budget) = []
 asItCame (mount budget) = []
 
--- a done mount mounts, and nothing but CUT ends that
-abbrev pub mountedAfter : Call → Coded → Bool → Bool
-mountedAfter (read f position buffer) a before = before
-mountedAfter (look f position) a before = before
-mountedAfter (write f position bytes) a before = before
-mountedAfter (truncate f n) a before = before
-mountedAfter (sync f budget) a before = cond (eqb (a .number) 9) false before
-mountedAfter (mount budget) a before = cond (eqb (a .number) 9) false (ifDone a true before)
+-- calls that change nothing, done or refused
+abbrev pub isIdle : Call → Bool
+isIdle (read f position buffer) = true
+isIdle (look f position) = true
+isIdle (write f position []) = true
+isIdle (write f position (b ∷ bytes)) = false
+isIdle (truncate f n) = false
+isIdle (sync f budget) = false
+isIdle (mount budget) = false
 
--- what a call gives on a device
-pub record Answers (I : Interface) (c : Call) (d : I .State) (r : Reply (I .State)) : Type 0 where
+-- done: the whole media, bytes and sizes, is as the media writes of the call leave it, and no other call than sync and mount has any;
+-- the device is mounted, its state sound, the page frames keep their length, and the work is done
+pub record Done (I : Interface) (c : Call) (s : I .State) (r : Reply (I .State)) : Type 0 where
+  pub stored : I .image (r .device) .media ≡ mediaAfter I s (plan I c s)
+  pub mounted : I .image (r .device) .cache .mounted ≡ 1
+  pub sound : isSound (I .pages s) (I .image (r .device) .media .sizes) (I .image (r .device) .cache) ≡ true
+  pub frames : length (I .image (r .device) .frames) ≡ length (I .image s .frames)
+  pub work : Works (I .pages s) c (I .image s) (I .lasting s) (I .cost s (plan I c s)) (imaged I r)
+
+-- CUT, of a call with these media writes: as many first ones are done as the budget pays for, the answer counts the budget, and the device
+-- is down. Power lost inside a call is a budget that ends there, so what each budget leaves shows the order of the media writes, and
+-- nothing else does
+pub record Cut (I : Interface) (ws : List MediaWrite) (s : I .State) (r : Reply (I .State)) : Type 0 where
+  pub writes : ℕ
+  pub pays : Pays I s (r .answer .count) ws writes
+  pub leaves : I .image (r .device) ≡ deviceOf (mediaAfter I s (take writes ws)) (I .image s .frames) downState
+
+-- done or cut: what outlasts the power is the media of the image, it is whole, and what it runs out of gets less by no more than the media
+-- writes take
+pub record Lasts (I : Interface) (ws : List MediaWrite) (s after : I .State) : Type 0 where
+  pub image : I .lasting after ≡ I .image after .media
+  pub shaped : I .isShaped after ≡ true
+  pub intact : I .isIntact after ≡ true
+  pub reserve : I .reserve s ≤ I .reserve after + I .takes s ws
+
+-- what a call gives, and what it leaves
+pub record Answers (I : Interface) (c : Call) (s : I .State) (r : Reply (I .State)) : Type 0 where
   -- the first refusal that applies, and done only where none does
   pub count : ℕ
-  pub in-order : r .answer ≡ firstRefusal (I .conditions c d ++ I .limits c d) (done count)
-  -- a refusal other than CUT changes nothing
-  pub unchanged : r .answer .number ≢ 0 → r .answer .number ≢ 9 → (r .device ≡ d) × (r .output ≡ asItCame c)
-  -- CUT leaves exactly as many media writes done as the budget paid for, and the device down
-  pub cut : r .answer .number ≡ 9 → r .device ≡ I .cutShort c d
-  -- done leaves on the media what its media writes leave: those of a sync or a mount are all paid for, and no other call has any
-  pub stored : IsDone (r .answer) → (f : ℕ) → I .onMedia (r .device) f ≡ I .onMedia (I .cutShort c d) f
-  pub mounted : I .isMounted (r .device) ≡ mountedAfter c (r .answer) (I .isMounted d)
-  -- lengths and limits stay
-  pub shaped : I .isShaped (r .device) ≡ I .isShaped d
-  pub limited : I .greatest (r .device) ≡ I .greatest d
+  pub in-order : r .answer ≡ firstRefusal (conditions I c s ++ limits I c s) (done count)
+  -- a refusal leaves the output as it came, and one other than CUT changes nothing
+  pub silent : r .answer .number ≢ 0 → r .output ≡ asItCame c
+  pub unchanged : r .answer .number ≢ 0 → r .answer .number ≢ 9 → r .device ≡ s
+  pub idle : isIdle c ≡ true → r .device ≡ s
+  pub is-cut : r .answer .number ≡ 9 → Cut I (plan I c s) s r
+  pub is-done : IsDone (r .answer) → Done I c s r
+  pub pages : I .pages (r .device) ≡ I .pages s
+  pub lasts : r .answer .number ≡ 0 ⊎ r .answer .number ≡ 9 → Lasts I (plan I c s) s (r .device)
 
--- DEMAND 1, but for format: of any call on any device
+-- DEMAND 1, but for format: of any call in any state
 abbrev pub Demand1 : Interface → Type 0
-Demand1 I = (c : Call) (d : I .State) → Answers I c d (I .does c d)
+Demand1 I = (c : Call) (s : I .State) → Answers I c s (I .does c s)
 
 module _ (I : Interface) where
   -- ---- demand 2: POSIX
 
   -- the device is mounted, its page frames have their length, and there is such a file
   abbrev pub Usable : I .State → ℕ → Type 0
-  Usable d f = (I .isMounted d ≡ true) × (I .isShaped d ≡ true) × (f < files)
+  Usable s f = (I .image s .cache .mounted ≡ 1) × (length (I .image s .frames) ≡ framesBytes) × (f < files)
 
-  -- and what is asked for lies within the greatest file size
-  abbrev pub Admissible : Call → I .State → Type 0
-  Admissible (read f position buffer) d = Usable d f × (position ≤ I .greatest d)
-  Admissible (look f position) d = Usable d f × (position ≤ I .greatest d)
-  Admissible (write f position bytes) d = Usable d f × (position + length bytes ≤ I .greatest d)
-  Admissible (truncate f n) d = Usable d f × (n ≤ I .greatest d)
-  Admissible (sync f budget) d = Usable d f
-  Admissible (mount budget) d = Unit {0}
-
-  -- an admissible call is done, unless it meets one of its limits, and then it is refused for that
-  abbrev pub Succeeds : World I → Call → Type 0
-  Succeeds w c = Admissible c (w .device) → (n : ℕ) × (I .does c (w .device) .answer ≡ firstRefusal (I .limits c (w .device)) (done n))
-
-  -- what POSIX.1 says of the bytes, sizes and counts of a call. What a write or a truncate did to the bytes is in the model
-  -- files (specs/Run, `told`); a read, a look or a sync after it must agree with them.
-  abbrev pub AsPosix : World I → Call → Type 0
-  -- as many bytes as the buffer takes, up to the end of the file; the rest of the buffer keeps its bytes
-  AsPosix w (read f position buffer) =
-      let r : Reply (I .State) = I .does (read f position buffer) (w .device) in
+  -- what a call gives, by the model files: bytes, sizes and counts as in POSIX.1, where what is asked for lies within the greatest file
+  -- size. What a write or a truncate did to the bytes is in the model files (specs/Run, `told`); reads, looks and syncs after it agree with
+  -- them
+  abbrev pub Serves : Call → World I → Reply Device → Type 0
+  -- the count is what fits into the buffer before the file ends; past it the buffer stays as it was
+  Serves (read f position buffer) w r =
       let file : List ℕ = w .files f .current in
-      (r .device ≡ w .device)
-      × (IsDone (r .answer) → r .answer .count ≡ min (length buffer) (length file - position))
-      × (r .output ≡ ifDone (r .answer) (overwrite buffer 0 (part file position (r .answer .count))) buffer)
-  -- the count is to the end of the page or of the file, the nearer; so many bytes of the file are the output, and zeros after it
-  AsPosix w (look f position) =
-      let r : Reply (I .State) = I .does (look f position) (w .device) in
-      let file : List ℕ = w .files f .current in
-      (r .device ≡ w .device)
-      × (IsDone (r .answer) → r .answer .count ≡ min (pageBytes - position % pageBytes) (length file - position))
-      × (part file position (r .answer .count) ≡ r .output ++ zeros (r .answer .count - length (r .output)))
-  -- all bytes, or those up to a page before which it stops: the rest would be NO ROOM
-  AsPosix w (write f position bytes) =
-      let r : Reply (I .State) = I .does (write f position bytes) (w .device) in
+      let n : ℕ = min (length buffer) (length file - position) in
+      Usable (w .device) f → position ≤ greatest I (w .device) → (r .answer ≡ done n) × (r .output ≡ overwrite buffer 0 (part file position n))
+  -- to the end of the page or of the file, the nearer. All of it is handed back where the page is cached, and otherwise what lies below the
+  -- floor; the rest are zeros that no buffer has
+  Serves (look f position) w r =
+      let m : ModelFile = w .files f in
+      let n : ℕ = toPageEnd position (length (m .current)) in
+      let shown : ℕ = toPageEnd position (cond (cachedIn m (position / pageBytes)) (length (m .current)) (floorOf m)) in
+      Usable (w .device) f → position ≤ greatest I (w .device) →
+      (r .answer ≡ done n) × (r .output ≡ part (m .current) position shown) × (part (m .current) position n ≡ r .output ++ zeros (n - shown))
+  -- NO ROOM, or all bytes, or those up to a page for which there is no room after them
+  Serves (write f position bytes) w r =
       let n : ℕ = r .answer .count in
-      IsDone (r .answer) →
-      (n ≡ length bytes)
-      ⊎ ((0 < n) × (n < length bytes) × ((position + n) % pageBytes ≡ 0)
-      × (firstRefusal (I .limits (write f (position + n) (drop n bytes)) (r .device)) (done 0) ≡ NO-ROOM))
-  AsPosix w (truncate f n) =
-      let r : Reply (I .State) = I .does (truncate f n) (w .device) in
-      IsDone (r .answer) → r .answer .count ≡ 0
-  -- the media holds the file exactly, bytes and size; the count is what was needed
-  AsPosix w (sync f budget) =
-      let r : Reply (I .State) = I .does (sync f budget) (w .device) in
-      IsDone (r .answer) → (r .answer .count ≡ I .needed (sync f budget) (w .device)) × (I .onMedia (r .device) f ≡ w .files f .current)
-  AsPosix w (mount budget) =
-      let r : Reply (I .State) = I .does (mount budget) (w .device) in
-      IsDone (r .answer) → r .answer .count ≡ I .needed (mount budget) (w .device)
+      let after : Files = change f (afterWrite position (take n bytes)) (w .files) in
+      Usable (w .device) f → position + length bytes ≤ greatest I (w .device) →
+      (r .answer ≡ firstRefusal (test (roomFor (I .pages (w .device)) (w .files) f position bytes) NO-ROOM ∷ []) (done n))
+      × (IsDone (r .answer) → Stops (roomFor (I .pages (w .device)) after f) position bytes n)
+  Serves (truncate f n) w r = Usable (w .device) f → n ≤ greatest I (w .device) → r .answer ≡ done 0
+  -- refused under its budget, or done with a count, by the media writes that the log says; done, the media holds the file exactly,
+  -- bytes and size
+  Serves (sync f budget) w r =
+      let ws : List MediaWrite = syncByLog (I .pages (w .device)) (w .files f) f in
+      Usable (w .device) f →
+      (r .answer ≡ firstRefusal (paying I (w .device) ws budget) (done (I .cost (w .device) ws)))
+      × (IsDone (r .answer) → fileOn (I .pages (w .device)) (r .device .media) f ≡ w .files f .current)
+  -- likewise by the media writes that the media asks for
+  Serves (mount budget) w r =
+      let ws : List MediaWrite = plan I (mount budget) (w .device) in
+      r .answer ≡ firstRefusal (paying I (w .device) ws budget) (done (I .cost (w .device) ws))
 
-  -- while mounted, a page is cached only where the log put it: none after a mount, and none of a file after its sync. So NO
-  -- ROOM, the stop of a write and the media writes of a sync come from the writes since then alone
-  abbrev pub CachedByLog : World I → Type 0
-  CachedByLog w =
-      I .isMounted (w .device) ≡ true → (f p : ℕ) → f < files → I .isCached (w .device) f p ≡ true → cachedBy (w .files f .log) p false ≡ true
+  -- the sizes and pages in the cache, the media writes of a sync and room for a write are what the model files say
+  pub record ByLog (w : World I) (f : ℕ) : Type 0 where
+    pub cached : (p : ℕ) → isCached (I .image (w .device)) f p ≡ cachedIn (w .files f) p
+    pub logical : logicalAt (I .image (w .device)) f ≡ length (w .files f .current)
+    pub floor : floorAt (I .image (w .device)) f ≡ floorOf (w .files f)
+    pub writes : syncPlan (I .pages (w .device)) (I .image (w .device)) f ≡ syncByLog (I .pages (w .device)) (w .files f) f
+    pub room : (position : ℕ) (bytes : List ℕ) → hasRoom (I .image (w .device)) f position bytes ≡ roomFor (I .pages (w .device)) (w .files) f position bytes
 
   abbrev pub Served : World I → Event I → Type 0
-  Served w (call c) = Succeeds w c × AsPosix w c × CachedByLog w
+  Served w (call c) = Serves c w (imaged I (I .does c (w .device))) × ((f : ℕ) → Usable (w .device) f → ByLog w f)
   Served w (powerLost x) = Unit {0}
 
   -- DEMAND 2, in every run: from any device right after a mount that is done, through any list of calls and power losses

@@ -1,29 +1,37 @@
--- Demand 1 of format, which is no call of a run: it ends the history that demand 3 speaks of.
+-- Demand 1 of format. It is no call of a run: no claim about a run reaches past it.
 use Prim.Native.Nat.{ℕ, _<_}
 use mathlib.Core.Path.{_≡_}
-use mathlib.Core.Logic.{_≢_}
-use mathlib.Core.List.{[], _∷_, _++_}
-use lib.Dec.{leb}
-use lib.ListN.{length, take}
-use Rattle.answer.specs.Coded.{done, CUT}
-use Rattle.answer.specs.Admission.{test, firstRefusal}
+use mathlib.Core.Logic.{_≢_, _⊎_}
+use mathlib.Core.List.{List, [], _++_}
+use Rattle.answer.specs.Coded.{done}
+use Rattle.answer.specs.Admission.{firstRefusal}
 use Rattle.media.specs.Geometry.{files, fileBytes}
-use Rattle.media.specs.Write.{byteAt, sizeAt, applyAll}
-use Rattle.device.specs.Device.{Device, deviceOf, downState}
-use Rattle.device.specs.Admission.{Result, mediaShape}
-use Rattle.device.specs.Mounting.{formatPlan, format}
-use Rattle.model.specs.Run.{IsDone}
+use Rattle.media.specs.Write.{Media, MediaWrite, byteAt, sizeAt}
+use Rattle.device.specs.Device.{deviceOf, downState}
+use Rattle.device.specs.Mounting.{formatPlan}
+use Rattle.model.specs.Run.{IsDone, Reply, Interface}
+use Rattle.model.specs.View.{anew, mediaAfter, paying}
+use Rattle.model.specs.Claims.{Lasts, Cut}
 
--- what a format gives on a device
-pub record Formats (P budget : ℕ) (d : Device) (r : Result Device) : Type 0 where
-  -- SHAPE, then CUT
-  pub in-order : r .answer ≡ firstRefusal (mediaShape P (d .media) ++ (test (leb (length (formatPlan P (d .media))) budget) (CUT budget) ∷ [])) (done (length (formatPlan P (d .media))))
-  pub unchanged : r .answer .number ≢ 0 → r .answer .number ≢ 9 → r .left ≡ d
-  pub cut : r .answer .number ≡ 9 → r .left ≡ deviceOf (applyAll P (d .media) (take budget (formatPlan P (d .media)))) (d .frames) downState
-  -- done leaves eight empty files on zeros, and the device down
-  pub empty : IsDone (r .answer) → (f : ℕ) → f < files
-      → (sizeAt (r .left .media) f ≡ 0) × ((i : ℕ) → i < fileBytes P → byteAt P (r .left .media) f i ≡ 0)
-  pub down : IsDone (r .answer) → r .left .cache ≡ downState
+module _ (I : Interface) where
+  -- its media writes
+  abbrev pub formatWrites : I .State → List MediaWrite
+  formatWrites s = formatPlan (I .pages s) (I .lasting s)
 
-abbrev pub Format : ℕ → Type 0
-Format P = (budget : ℕ) (d : Device) → Formats P budget d (format P budget d)
+  -- what a format gives
+  pub record Formats (budget : ℕ) (s : I .State) (r : Reply (I .State)) : Type 0 where
+    -- SHAPE, damage, then running out, then CUT
+    pub in-order : r .answer ≡ firstRefusal (anew I s ++ paying I s (formatWrites s) budget) (done (I .cost s (formatWrites s)))
+    pub silent : r .output ≡ []
+    pub unchanged : r .answer .number ≢ 0 → r .answer .number ≢ 9 → r .device ≡ s
+    pub is-cut : r .answer .number ≡ 9 → Cut I (formatWrites s) s r
+    -- done leaves the media as its media writes leave it, and the device down: eight empty files on zeros
+    pub leaves : IsDone (r .answer) → I .image (r .device) ≡ deviceOf (mediaAfter I s (formatWrites s)) (I .image s .frames) downState
+    pub empty : IsDone (r .answer) → (f : ℕ) → f < files →
+        let m : Media = I .image (r .device) .media in
+        (sizeAt m f ≡ 0) × ((i : ℕ) → i < fileBytes (I .pages s) → byteAt (I .pages s) m f i ≡ 0)
+    pub pages : I .pages (r .device) ≡ I .pages s
+    pub lasts : r .answer .number ≡ 0 ⊎ r .answer .number ≡ 9 → Lasts I (formatWrites s) s (r .device)
+
+  abbrev pub Format : Type 0
+  Format = (budget : ℕ) (s : I .State) → Formats budget s (I .formats budget s)

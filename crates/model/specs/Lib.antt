@@ -1,9 +1,10 @@
 pub mod ModelFile
+pub mod CacheByLog
 pub mod Run
+pub mod View
+pub mod Work
 pub mod Claims
+pub mod Format
+pub mod Demands
 pub mod States
 pub mod Store
-pub mod Floor
-pub mod Format
-pub mod Edges
-pub mod RuledOut

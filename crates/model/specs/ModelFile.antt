@@ -1,12 +1,9 @@
 -- The model file: document 01, "The plain files" (present, kept and log are current, durable and log here).
-use Prim.Native.Nat.{ℕ, zero, suc, _+_, _*_, _≤_}
-use mathlib.Core.Bool.{Bool, _&&_, _||_}
+use Prim.Native.Nat.{ℕ, zero, suc, _≤_}
 use mathlib.Core.Path.{_≡_}
 use mathlib.Core.Logic.{_⊎_}
 use mathlib.Core.List.{List, [], _∷_, _++_}
-use lib.Dec.{ltb}
 use lib.ListN.{length, take, drop}
-use Rattle.media.specs.Geometry.{pageBytes}
 
 -- what is logged: a write that was done, with the bytes that it put down; a truncate that was done
 pub data Entry : Type 0 where
@@ -32,27 +29,17 @@ abbrev pub posixWrite : List ℕ → ℕ → List ℕ → List ℕ
 posixWrite file position [] = file
 posixWrite file position (b ∷ bytes) = lay file position (b ∷ bytes)
 
--- POSIX ftruncate: cut, or filled with zeros, to n
+-- POSIX ftruncate: the first n bytes, with zeros where the file has fewer
 abbrev pub posixTruncate : List ℕ → ℕ → List ℕ
 posixTruncate file zero = []
 posixTruncate [] (suc n) = 0 ∷ posixTruncate [] n
 posixTruncate (x ∷ file) (suc n) = x ∷ posixTruncate file n
 
--- what a file may become by a log, in order: each write with some count from 0 to its own, each truncate carried out or left out
+-- what may be found of a file after a log: of each write some first bytes, of each truncate all or nothing, in order
 abbrev pub Becomes : List ℕ → List Entry → List ℕ → Type 0
 Becomes file [] found = file ≡ found
 Becomes file (written position bytes ∷ log) found = (n : ℕ) × (n ≤ length bytes) × Becomes (posixWrite file position (take n bytes)) log found
 Becomes file (truncated n ∷ log) found = Becomes (posixTruncate file n) log found ⊎ Becomes file log found
-
--- page p is cached by an entry: a write that put a byte into it; and is no longer, by a truncate to where it begins or before
-abbrev pub cachedAfter : Entry → ℕ → Bool → Bool
-cachedAfter (written position bytes) p before = before || (ltb position (pageBytes * suc p) && ltb (pageBytes * p) (position + length bytes))
-cachedAfter (truncated n) p before = before && ltb (pageBytes * p) n
-
--- by a whole log
-abbrev pub cachedBy : List Entry → ℕ → Bool → Bool
-cachedBy [] p before = before
-cachedBy (e ∷ log) p before = cachedBy log p (cachedAfter e p before)
 
 -- ---- what is done to a model file
 

@@ -6,8 +6,11 @@ use mathlib.Core.List.{List, [], _∷_}
 use lib.Dec.{eqb}
 use lib.ListN.{take}
 use Rattle.answer.specs.Coded.{Coded}
-use Rattle.answer.specs.Admission.{Test, ifDone}
-use Rattle.media.specs.Geometry.{files}
+use Rattle.answer.specs.Admission.{ifDone}
+use Rattle.memory.specs.Bytes.{part}
+use Rattle.media.specs.Geometry.{files, fileStart}
+use Rattle.media.specs.Write.{Media, MediaWrite, sizeAt}
+use Rattle.device.specs.Device.{Device}
 use Rattle.model.specs.ModelFile.{ModelFile, fresh, afterWrite, afterTruncate, afterSync}
 
 pub data Call : Type 0 where
@@ -27,30 +30,43 @@ pub record Reply (S : Type 0) : Type 0 where
   pub output : List ℕ
   pub device : S
 
--- what the claims see of a device. What it says of itself here is part of each claim about it
+-- what the claims see of a store: the device of document 01 that it is, and what another kind of part beside it adds. What is asked
+-- of a call (its refusals, its media writes) follows from this, by specs/View. These fields are taken as given: they are read as
+-- part of the claim
 pub record Interface : Type 1 where
   -- all that goes from call to call
   pub State : Type 0
   pub does : Call → State → Reply State
-  -- what lost power leaves of the bytes that are not kept, and the state after it
+  -- format is no call of a run
+  pub formats : (budget : ℕ) → State → Reply State
+  -- what lost power may leave, and the state after it
   pub Loss : Type 0
   pub lose : Loss → State → State
-  -- the bytes of each file on the media: as many as its stored size
-  pub onMedia : State → ℕ → List ℕ
-  pub isMounted : State → Bool
-  -- the page frames have their length; that the media has its lengths, a done mount shows
+  -- the number of pages in a file
+  pub pages : State → ℕ
+  -- media, page frames and cache state, as the calls find them
+  pub image : State → Device
+  -- the media that outlasts the power, with which a mount begins: that of the image, or what another part holds
+  pub lasting : State → Media
+  -- what is borrowed beside the image has its length; it is not damaged
   pub isShaped : State → Bool
-  -- page p of file f is cached
-  pub isCached : State → ℕ → ℕ → Bool
-  -- the greatest file size
-  pub greatest : State → ℕ
-  -- the refusals up to RANGE, in their order, with what each asks
-  pub conditions : Call → State → List Test
-  -- those that remain where all else is in order: NO ROOM and CUT
-  pub limits : Call → State → List Test
-  -- how many media writes a sync or a mount needs, and the device after as many of them as its budget pays for, cut
-  pub needed : Call → State → ℕ
-  pub cutShort : Call → State → State
+  pub isIntact : State → Bool
+  -- what media writes cost of a budget
+  pub cost : State → List MediaWrite → ℕ
+  -- what a part runs out of: how much of it there is still, and how much media writes take
+  pub reserve : State → ℕ
+  pub takes : State → List MediaWrite → ℕ
+
+-- a reply with the image for the state
+abbrev pub imaged : (I : Interface) → Reply (I .State) → Reply Device
+imaged I r = record { answer = r .answer; output = r .output; device = I .image (r .device) }
+
+-- file f on the media: its bytes up to its stored size
+abbrev pub fileOn : ℕ → Media → ℕ → List ℕ
+fileOn P m f = part (m .bytes) (fileStart P f) (sizeAt m f)
+
+abbrev pub onMedia : (I : Interface) → I .State → ℕ → List ℕ
+onMedia I s = fileOn (I .pages s) (I .lasting s)
 
 -- ---- the model files beside it
 
@@ -87,12 +103,12 @@ module _ (I : Interface) where
   abbrev pub step : World → Event → World
   step w (call c) =
       let r : Reply (I .State) = I .does c (w .device) in
-      record { device = r .device; files = feed c (r .answer) (I .onMedia (r .device)) (w .files) }
+      record { device = r .device; files = feed c (r .answer) (onMedia I (r .device)) (w .files) }
   step w (powerLost x) = record { device = I .lose x (w .device); files = w .files }
 
   -- right after a mount that is done
   abbrev pub start : I .State → World
-  start d = record { device = d; files = λ f. fresh (I .onMedia d f) }
+  start d = record { device = d; files = λ f. fresh (onMedia I d f) }
 
   -- Q holds at every event of a list
   abbrev pub Throughout : (World → Event → Type 0) → World → List Event → Type 0
@@ -109,7 +125,7 @@ module _ (I : Interface) where
   abbrev pub AtMounts : (ModelFile → List ℕ → Type 0) → World → Event → Type 0
   AtMounts Q w (call (mount budget)) =
       let r : Reply (I .State) = I .does (mount budget) (w .device) in
-      IsDone (r .answer) → (f : ℕ) → f < files → Q (w .files f) (I .onMedia (r .device) f)
+      IsDone (r .answer) → (f : ℕ) → f < files → Q (w .files f) (onMedia I (r .device) f)
   AtMounts Q w (call (read f position buffer)) = Unit {0}
   AtMounts Q w (call (look f position)) = Unit {0}
   AtMounts Q w (call (write f position bytes)) = Unit {0}

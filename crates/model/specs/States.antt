@@ -1,4 +1,4 @@
--- The closed form behind demand 3: which state a mount can find a file in.
+-- The closed form behind demand 3: which state a mount can find a file in. It is proved beside the demands (proofs/Claims, `closed-form`).
 use Prim.Native.Nat.{ℕ, _-_, _*_, min}
 use mathlib.Core.Path.{_≡_}
 use mathlib.Core.Logic.{_⊎_}

@@ -18,10 +18,10 @@ ghost use Rattle.scan.specs.Scan.{firstIndex};
 ghost use Rattle.device.specs.declared.CacheState.{CacheState};
 ghost use Rattle.device.specs.Device.{deviceOf, slotCount, framesBytes, holds};
 ghost use Rattle.device.specs.Current.{currentBytes};
-ghost use Rattle.device.specs.Admission.{give, fileTests};
-ghost use Rattle.device.specs.Reading.{read};
-ghost use Rattle.device.specs.Looking.{toPageEnd, lookCount, lookSpan};
+ghost use Rattle.device.specs.Admission.{give};
+ghost use Rattle.device.specs.Looking.{toPageEnd};
 ghost use Rattle.state_bytes.specs.Encoding.{decode};
+ghost use Rattle.state_bytes.specs.InPlace.{lent, lentTests, readBytes, lookCountBytes, lookSpanBytes};
 ghost use Rattle.cache_state.specs.Tables.{slotTable, slotFor, tableAfter};
 
 // The refusals of a call at a position of a file, in their order. Where none applies, the table has the slot of each page.
@@ -34,7 +34,7 @@ fn admit_at(
     position: usize,
     slots: &mut [u8; cache_state::TABLE],
 ) -> Answer
-    ensures { λ r. ⌜ (coded r ≡ firstRefusal (fileTests pagesPerFile (deviceOf (mediaOf (now (media .entry)) (now (sizes .entry))) (now (frames .entry)) (decode (now (state .entry)))) file (leb position (fileBytes pagesPerFile))) (done 0))
+    ensures { λ r. ⌜ (coded r ≡ firstRefusal (lentTests pagesPerFile (lent (mediaOf (now (media .entry)) (now (sizes .entry))) (now (frames .entry)) (now (state .entry))) file (leb position (fileBytes pagesPerFile))) (done 0))
         × (now (slots .exit) ≡ tableAfter (coded r) ((decode (now (state .entry))) .slots)) ⌝ }
 {
     let greatest = PAGE_BYTES * PAGES_PER_FILE;
@@ -137,7 +137,7 @@ pub fn read(
     buffer: &mut [u8],
 ) -> Answer
     ensures { λ r. ⌜ give (coded r) (now (buffer .exit))
-        ≡ read pagesPerFile file position (now (buffer .entry)) (deviceOf (mediaOf (now (media .entry)) (now (sizes .entry))) (now (frames .entry)) (decode (now (state .entry)))) ⌝ }
+        ≡ readBytes pagesPerFile file position (now (buffer .entry)) (lent (mediaOf (now (media .entry)) (now (sizes .entry))) (now (frames .entry)) (now (state .entry))) ⌝ }
 {
     let mut slots = [0u8; cache_state::TABLE];
     let admission = admit_at(media, sizes, frames, state, file, position, &mut slots);
@@ -174,7 +174,7 @@ pub fn look_span(
     file: usize,
     position: usize,
 ) -> Span
-    ensures { λ r. ⌜ r ≡ lookSpan pagesPerFile file position (deviceOf (mediaOf (now (media .entry)) (now (sizes .entry))) (now (frames .entry)) (decode (now (state .entry)))) ⌝ }
+    ensures { λ r. ⌜ r ≡ lookSpanBytes pagesPerFile file position (lent (mediaOf (now (media .entry)) (now (sizes .entry))) (now (frames .entry)) (now (state .entry))) ⌝ }
 {
     let mut slots = [0u8; cache_state::TABLE];
     let admission = admit_at(media, sizes, frames, state, file, position, &mut slots);
@@ -214,7 +214,7 @@ pub fn look_count(
     file: usize,
     position: usize,
 ) -> Answer
-    ensures { λ r. ⌜ coded r ≡ lookCount pagesPerFile file position (deviceOf (mediaOf (now (media .entry)) (now (sizes .entry))) (now (frames .entry)) (decode (now (state .entry)))) ⌝ }
+    ensures { λ r. ⌜ coded r ≡ lookCountBytes pagesPerFile file position (lent (mediaOf (now (media .entry)) (now (sizes .entry))) (now (frames .entry)) (now (state .entry))) ⌝ }
 {
     let mut slots = [0u8; cache_state::TABLE];
     let admission = admit_at(media, sizes, frames, state, file, position, &mut slots);

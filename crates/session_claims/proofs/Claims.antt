@@ -19,7 +19,7 @@ use Rattle.session_line.specs.Grammar.{parse, lines, LF, greatestLine, inFirst}
 use Rattle.session_line.specs.Reply.{header}
 use Rattle.session_run.specs.declared.PartialLine.{PartialLine}
 use Rattle.session_run.specs.Session.{text, run, runLine, answers, startDevice, output}
-use Rattle.session_run.specs.Feeding.{keptBytes, noLine, pushed, restarted, lineOf, Fed, after, feedByte, feed, feedAll, lastEnd}
+use Rattle.session_run.specs.Feeding.{keptBytes, noLine, pushed, restarted, lineOf, Fed, feedByte, feed, feedAll, lastEnd}
 use Rattle.session_run.proofs.Feeding.{feed-join}
 use Rattle.session_claims.specs.Claims.{joined, printedInBlocks, AnyBlocks}
 

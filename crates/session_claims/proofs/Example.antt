@@ -3,7 +3,7 @@ use mathlib.Core.Path.{refl}
 use Rattle.media.specs.Geometry.{fileStart}
 use Rattle.device.specs.Device.{freeWhere}
 use Rattle.device.specs.Sizes.{inOrder}
-use Rattle.device.specs.Sound.{inRange, holdsAlone, isDown, soundTests, isSound}
+use Rattle.device.specs.Sound.{inRange, holdsAlone, isDown, hasLengths, soundTests, isSound}
 use Rattle.device.specs.Current.{currentAt}
 use Rattle.device.specs.Admission.{mediaShape, framesShape, sizesFit, stateTests}
 use Rattle.device.specs.Reading.{read}
@@ -18,5 +18,5 @@ use Rattle.session_run.specs.Session.{run, runLine, startDevice, output}
 use Rattle.session_claims.specs.Example.{Example}
 
 pub example : Example
-unfolding fileStart freeWhere blankPage soundTests inOrder inRange holdsAlone isDown isSound currentAt mediaShape framesShape sizesFit stateTests read filledPage cachePage patchPage putPage grown write truncate trimWrites pageWrite pageWrites sizeWrites syncPlan syncedState writeIf underBudget sync nonzeroFrom trimsFrom mountPlan mount isNumber forms parse decimal replyLine header run runLine startDevice output
+unfolding fileStart freeWhere blankPage hasLengths soundTests inOrder inRange holdsAlone isDown isSound currentAt mediaShape framesShape sizesFit stateTests read filledPage cachePage patchPage putPage grown write truncate trimWrites pageWrite pageWrites sizeWrites syncPlan syncedState writeIf underBudget sync nonzeroFrom trimsFrom mountPlan mount isNumber forms parse decimal replyLine header run runLine startDevice output
 example = refl

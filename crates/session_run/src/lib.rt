@@ -131,7 +131,7 @@ fn read_bytes(
         × (r .cache ≡ cache) × (r .reads ≡ true) ⌝ }
 {
     let mut bytes = read_buffer();
-    let answer = cache::read(
+    let outcome = cache::read(
         media,
         sizes,
         frames,
@@ -140,9 +140,11 @@ fn read_bytes(
         position,
         &mut bytes[..length],
     );
+    let answer = outcome.answer;
+    let state = outcome.cache;
     Call {
         answer,
-        cache,
+        cache: state,
         reads: true,
         bytes,
     }

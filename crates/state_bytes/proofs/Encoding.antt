@@ -1,16 +1,15 @@
 -- The layout written and read: the steps of its loops, and that both ways are inverse.
 use mathlib.Core.Path.{_≡_, refl, sym, ap, _∙_}
-use mathlib.Core.Bool.{true, false}
 use mathlib.Core.List.{List, [], _∷_, _++_, append-nil, append-assoc}
-use Prim.Native.Nat.{ℕ, zero, suc, _+_, _*_, _/_, _%_, _≤_, _<_, _^_}
+use Prim.Native.Nat.{ℕ, zero, suc, _+_, _*_, _≤_, _<_}
 use native.Mathlib.Nat.{not-suc-le-zero, le-of-suc-le-suc, mul-suc, mul-zero, zero-add, add-assoc, add-comm}
 use native.Mathlib.Numerals.{add-one}
 use native.Mathlib.Omega.{arith}
 use lib.ListN.{length, getD, take, drop, set, length-append, length-set, drop-of-length-le, List·getD-append}
-use lib.Seq.{drop-cons, set-append-seam, getD-append-add, getD-append-seam, ext-getD, take-add, drop-drop, take-all}
+use lib.Seq.{drop-cons, set-append-seam, getD-append-add, getD-append-seam, ext-getD, take-add, drop-drop}
 use Rattle.memory.specs.Bytes.{part, overwrite}
 use Rattle.memory.proofs.Cases.{split-lt}
-use Rattle.memory.proofs.Bytes.{overwrite-join-at, overwrite-whole, overwrite-first, overwrite-one, length-part, getD-part}
+use Rattle.memory.proofs.Bytes.{overwrite-join-at, overwrite-whole, overwrite-first, overwrite-one}
 use borrow.Author.Tests.{eq-eqb}
 use Rattle.media.specs.Geometry.{files}
 use Rattle.device.specs.declared.CacheState.{CacheState}

@@ -1,7 +1,7 @@
 -- The bytes read and changed in place: what a slot and a size are, and that a change of the bytes of a state is one of the state.
 use mathlib.Core.Path.{_≡_, refl, sym, ap, _∙_}
+use mathlib.Core.Bool.{true}
 use mathlib.Core.Logic.{_≢_}
-use mathlib.Core.Bool.{true, cond}
 use mathlib.Core.List.{List, [], _∷_, _++_, append-nil, append-assoc}
 use Prim.Native.Nat.{ℕ, zero, suc, _+_, _*_, _≤_, _<_}
 use native.Mathlib.Nat.{not-suc-le-zero, le-of-suc-le-suc, mul-suc, mul-zero, mul-le-mul-left, zero-add}
@@ -9,18 +9,16 @@ use native.Mathlib.Omega.{arith}
 use lib.ListN.{length, getD, set, replicate, length-append, length-set, length-replicate, List·getD-eq-default}
 use lib.Seq.{set-out}
 use borrow.Author.Tests.{eq-eqb, ne-eqb, lt-ltb, le-ltb}
-use Rattle.memory.specs.Bytes.{zeros, overwrite}
-use Rattle.memory.proofs.Bytes.{overwrite-none, length-overwrite}
+use Rattle.memory.specs.Bytes.{overwrite}
+use Rattle.memory.proofs.Bytes.{overwrite-none}
 use Rattle.memory.proofs.Cases.{split-lt, split-eq}
 use Rattle.media.specs.Geometry.{files}
-use Rattle.scan.proofs.Scan.{true-not-false}
 use Rattle.device.specs.declared.Slot.{Slot}
 use Rattle.device.specs.declared.CacheState.{CacheState}
-use Rattle.device.specs.Device.{slotCount, freeSlot, withSlots, withLogical, withFloor}
-use Rattle.device.specs.Sound.{isSound}
-use Rattle.state_bytes.specs.Encoding.{stateBytes, slotsAt, logicalAt, floorAt, slotBytes, numberBytes, joined, slotIn, numberIn, slotsIn, sizesIn, isState, noState, encode, decode, elementSet, slotSet, sizeSet}
-use Rattle.state_bytes.specs.InPlace.{IsEncoded}
-use Rattle.state_bytes.specs.Inverse.{Shaped}
+use Rattle.device.specs.Device.{slotCount, freeSlot, downState, withSlots, withLogical, withFloor}
+use Rattle.device.specs.Sound.{hasLengths}
+use Rattle.state_bytes.specs.Encoding.{stateBytes, slotsAt, logicalAt, floorAt, slotBytes, numberBytes, joined, slotIn, numberIn, slotsIn, sizesIn, encode, decode, elementSet, slotSet, sizeSet}
+use Rattle.state_bytes.specs.Inverse.{Shaped, AreBytes}
 use Rattle.state_bytes.proofs.Encoding.{length-joined, length-each, getD-each}
 use Rattle.state_bytes.proofs.Inverse.{inverse, length-encode}
 
@@ -34,7 +32,7 @@ none-at (suc n) x (suc k) = none-at n x k
 
 module _ (bytes : List ℕ) where
   -- bytes of another length
-  pub decode-other : length bytes ≢ stateBytes → decode bytes ≡ noState
+  pub decode-other : length bytes ≢ stateBytes → decode bytes ≡ downState
   unfolding decode
   decode-other n = rw (ne-eqb (length bytes) stateBytes n)
 
@@ -50,7 +48,15 @@ module _ (bytes : List ℕ) where
       (λ n. rw (ne-eqb (length bytes) stateBytes n)
       (record { slots = length-replicate slotCount freeSlot; logical = length-replicate {A = ℕ} files 0; floor = length-replicate {A = ℕ} files 0 }))
 
+  pub decode-lengths : hasLengths (decode bytes) ≡ true
+  unfolding hasLengths
+  decode-lengths = let h : Shaped (decode bytes) = shaped in rw (eq-eqb _ _ (h .slots), eq-eqb _ _ (h .logical), eq-eqb _ _ (h .floor))
+
   module _ (e : length bytes ≡ stateBytes) where
+    pub mark-read : decode bytes .mounted ≡ getD bytes 0 0
+    unfolding decode
+    mark-read = rw (eq-eqb (length bytes) stateBytes e)
+
     pub slots-read : decode bytes .slots ≡ slotsIn bytes
     unfolding decode
     slots-read = rw (eq-eqb (length bytes) stateBytes e)
@@ -158,43 +164,32 @@ module _ (s : CacheState) (h : Shaped s) where
       (rw (append-assoc slotRun logicalRun, append-nil)) (ap suc (rw (length-append, slot-run, logical-run))) (h .floor) (length-encode s h)
       ∙ rw (append-assoc slotRun logicalRun, append-nil)
 
--- ---- sound bytes
+-- ---- changes of bytes
 
--- bytes that say a sound state are the bytes of one
-pub sound-length : (P : ℕ) (stored bytes : List ℕ) → isSound P stored (decode bytes) ≡ true → length bytes ≡ stateBytes
-sound-length P stored bytes e =
-    split-eq (length bytes) stateBytes (λ q. q) (λ n. absurd (true-not-false (isSound P stored (decode bytes)) e (inverse .other-length P stored bytes n)))
+module _ (bytes : List ℕ) (e : length bytes ≡ stateBytes) (small : AreBytes bytes) where
+  -- by what the same change makes of the bytes of the state
+  pub changed : (change : List ℕ → List ℕ) (s : CacheState) → Shaped s → change (encode (decode bytes)) ≡ encode s
+      → (after : List ℕ) → after ≡ change bytes → decode after ≡ s
+  changed change s h is after q =
+      ap decode (q ∙ ap change (sym (inverse .back-and-there bytes e small)) ∙ is) ∙ inverse .there-and-back s h
 
--- ---- changes of encoded bytes
-
-pub encode-encoded : (s : CacheState) → Shaped s → IsEncoded (encode s)
-encode-encoded s h = rw (inverse .there-and-back s h)
-
-module _ (bytes : List ℕ) (e : IsEncoded bytes) where
-  -- bytes that are those of a state of the right lengths
-  pub decode-is : (after : List ℕ) (s : CacheState) → Shaped s → after ≡ encode s → (decode after ≡ s) × IsEncoded after
-  decode-is after s h q = (rw q (inverse .there-and-back s h), rw q (encode-encoded s h))
-
-  pub slot-changed : (k : ℕ) (x : Slot) (after : List ℕ) → after ≡ slotSet bytes k x
-      → (decode after ≡ withSlots (decode bytes) (set (decode bytes .slots) k x)) × IsEncoded after
-  slot-changed k x after q =
+  pub slot-changed : (k : ℕ) (x : Slot) (after : List ℕ) → after ≡ slotSet bytes k x → decode after ≡ withSlots (decode bytes) (set (decode bytes .slots) k x)
+  slot-changed k x =
       let h : Shaped (decode bytes) = shaped bytes in
-      decode-is after (withSlots (decode bytes) (set (decode bytes .slots) k x))
+      changed (λ b. slotSet b k x) (withSlots (decode bytes) (set (decode bytes .slots) k x))
       (record { slots = length-set (decode bytes .slots) k x ∙ h .slots; logical = h .logical; floor = h .floor })
-      (q ∙ ap (λ (b : List ℕ). slotSet b k x) (sym e) ∙ slot-set (decode bytes) h k x)
+      (slot-set (decode bytes) h k x)
 
-  pub logical-changed : (f n : ℕ) (after : List ℕ) → after ≡ sizeSet logicalAt bytes f n
-      → (decode after ≡ withLogical (decode bytes) f n) × IsEncoded after
-  logical-changed f n after q =
+  pub logical-changed : (f n : ℕ) (after : List ℕ) → after ≡ sizeSet logicalAt bytes f n → decode after ≡ withLogical (decode bytes) f n
+  logical-changed f n =
       let h : Shaped (decode bytes) = shaped bytes in
-      decode-is after (withLogical (decode bytes) f n)
+      changed (λ b. sizeSet logicalAt b f n) (withLogical (decode bytes) f n)
       (record { slots = h .slots; logical = length-set (decode bytes .logical) f n ∙ h .logical; floor = h .floor })
-      (q ∙ ap (λ (b : List ℕ). sizeSet logicalAt b f n) (sym e) ∙ logical-set (decode bytes) h f n)
+      (logical-set (decode bytes) h f n)
 
-  pub floor-changed : (f n : ℕ) (after : List ℕ) → after ≡ sizeSet floorAt bytes f n
-      → (decode after ≡ withFloor (decode bytes) f n) × IsEncoded after
-  floor-changed f n after q =
+  pub floor-changed : (f n : ℕ) (after : List ℕ) → after ≡ sizeSet floorAt bytes f n → decode after ≡ withFloor (decode bytes) f n
+  floor-changed f n =
       let h : Shaped (decode bytes) = shaped bytes in
-      decode-is after (withFloor (decode bytes) f n)
+      changed (λ b. sizeSet floorAt b f n) (withFloor (decode bytes) f n)
       (record { slots = h .slots; logical = h .logical; floor = length-set (decode bytes .floor) f n ∙ h .floor })
-      (q ∙ ap (λ (b : List ℕ). sizeSet floorAt b f n) (sym e) ∙ floor-set (decode bytes) h f n)
+      (floor-set (decode bytes) h f n)

@@ -1,28 +1,21 @@
 -- The layout written and read is inverse.
-use mathlib.Core.Path.{_≡_, refl, sym, ap, _∙_}
-use mathlib.Core.Logic.{_≢_}
-use mathlib.Core.Bool.{Bool, true, false, cond}
+use mathlib.Core.Path.{_≡_, refl, ap, _∙_}
 use mathlib.Core.List.{List, [], _∷_, _++_, append-nil}
-use Prim.Native.Nat.{ℕ, zero, suc, _+_, _*_, _/_, _%_, _≤_, _<_}
+use Prim.Native.Nat.{ℕ, suc, _+_, _*_, _/_, _%_, _≤_, _<_}
 use native.Mathlib.Nat.{add-assoc, add-comm, add-zero}
 use native.Mathlib.Numerals.{add-one, unary-clauses}
 use native.Mathlib.Omega.{arith}
-use lib.Dec.{eqb, leb}
-use lib.ListN.{length, getD, take, drop, length-append}
+use mir.Syntax.{w8}
+use mir.Val.{Fits}
+use lib.ListN.{length, getD, drop, length-append}
 use lib.Seq.{drop-cons, drop-drop, take-add, take-all}
-use borrow.Author.Tests.{eq-eqb, ne-eqb, le-leb, leb-true}
-use borrow.Table.Steps.{cases}
+use borrow.Author.Tests.{eq-eqb}
 use Rattle.memory.specs.Bytes.{part}
-use Rattle.memory.proofs.Cases.{split-eq}
-use Rattle.scan.specs.Scan.{everyBelow}
-use Rattle.scan.proofs.Scan.{everyBelow-at, everyBelow-all}
 use Rattle.media.specs.Geometry.{files}
-use Rattle.device.specs.declared.Slot.{Slot}
 use Rattle.device.specs.declared.CacheState.{CacheState}
 use Rattle.device.specs.Device.{slotCount, freeSlot}
-use Rattle.device.specs.Sound.{isSound, soundTests}
-use Rattle.state_bytes.specs.Encoding.{stateBytes, slotsAt, logicalAt, floorAt, slotBytes, numberBytes, joined, each, slotIn, numberIn, slotsIn, sizesIn, isState, noMark, encode, decode}
-use Rattle.state_bytes.specs.Inverse.{Shaped, Inverse}
+use Rattle.state_bytes.specs.Encoding.{stateBytes, slotsAt, logicalAt, floorAt, slotBytes, numberBytes, joined, slotIn, numberIn, slotsIn, sizesIn, encode, decode}
+use Rattle.state_bytes.specs.Inverse.{Shaped, AreBytes, Inverse}
 use Rattle.state_bytes.proofs.Encoding.{length-joined, joined-at, joined-past, each-is, joined-each}
 
 -- ---- a state, written and read
@@ -34,14 +27,6 @@ after-mark m xs n = rw (add-comm 1 n, add-one)
 -- a number of four bytes
 number-back : (n : ℕ) → n % 256 + 256 * (n / 256 % 256) + 65536 * (n / 65536 % 256) + 16777216 * (n / 16777216) ≡ n
 number-back n = omega arith
-
-flag-back : (b : Bool) → eqb (cond b 1 0 % 2) 1 ≡ b
-flag-back true = refl
-flag-back false = refl
-
-flag-small : (b : Bool) → cond b 1 0 ≤ 1
-flag-small true = omega arith
-flag-small false = omega arith
 
 module _ (s : CacheState) (h : Shaped s) where
   -- the sizes, behind the slots
@@ -82,21 +67,13 @@ module _ (s : CacheState) (h : Shaped s) where
       ∙ joined-past 4 numberBytes (λ t. refl) (s .logical) (joined numberBytes (s .floor)) n
       ∙ (rw append-nil at (joined-at 4 numberBytes (λ t. refl) (s .floor) [] f j 0 (rw (h .floor) l) m)))
 
-  is-state : isState (encode s) ≡ true
-  unfolding isState
-  is-state =
-      everyBelow-all slotCount (λ k. leb (getD (encode s) (slotsAt + 3 * k) 0) 1)
-      (λ k l.
-      let u : getD (encode s) (slotsAt + 3 * k) 0 ≡ cond (getD (s .slots) k freeSlot .used) 1 0 = rw add-zero at (slot-byte k 0 l (omega arith)) in
-      rw u (le-leb _ 1 (flag-small (getD (s .slots) k freeSlot .used))))
-
   slots-back : slotsIn (encode s) ≡ s .slots
   unfolding slotsIn
   slots-back =
       each-is slotCount (λ k. slotIn (encode s) (slotsAt + 3 * k)) (s .slots) freeSlot (h .slots)
       (λ k l.
-      let u : getD (encode s) (slotsAt + 3 * k) 0 ≡ cond (getD (s .slots) k freeSlot .used) 1 0 = rw add-zero at (slot-byte k 0 l (omega arith)) in
-      rw (u, add-assoc slotsAt (3 * k) 1, slot-byte k 1 l (omega arith), add-assoc slotsAt (3 * k) 2, slot-byte k 2 l (omega arith), flag-back))
+      let u : getD (encode s) (slotsAt + 3 * k) 0 ≡ getD (s .slots) k freeSlot .used = rw add-zero at (slot-byte k 0 l (omega arith)) in
+      rw (u, add-assoc slotsAt (3 * k) 1, slot-byte k 1 l (omega arith), add-assoc slotsAt (3 * k) 2, slot-byte k 2 l (omega arith)))
 
   sizes-back : (a : ℕ) (sizes : List ℕ) → length sizes ≡ files
       → ((f j : ℕ) → f < files → j < 4 → getD (encode s) (a + (4 * f + j)) 0 ≡ getD (numberBytes (getD sizes f 0)) j 0)
@@ -118,7 +95,6 @@ module _ (s : CacheState) (h : Shaped s) where
   back =
       rw (
         eq-eqb (length (encode s)) stateBytes length-encode,
-        is-state,
         slots-back,
         sizes-back logicalAt (s .logical) (h .logical) logical-byte,
         sizes-back floorAt (s .floor) (h .floor) floor-byte,
@@ -127,12 +103,10 @@ module _ (s : CacheState) (h : Shaped s) where
 
 -- ---- bytes, read and written
 
--- a first byte of 0 or 1
-flag-there : (b : ℕ) → b ≤ 1 → cond (eqb (b % 2) 1) 1 0 ≡ b
-flag-there b h =
-    split-eq b 1
-    (λ e. rw (eq-eqb (b % 2) 1 (omega arith)) (sym e))
-    (λ n. rw (ne-eqb (b % 2) 1 (λ e. n (omega arith))) (omega arith))
+-- what code knows of a slice of bytes
+pub are-bytes : (xs : List ℕ) → ((i : ℕ) → Fits w8 (getD xs i 0)) → AreBytes xs
+unfolding AreBytes
+are-bytes xs h i = omega (arith, h i)
 
 module _ (bytes : List ℕ) (a : ℕ) where
   part-three : a + 3 ≤ length bytes → getD bytes a 0 ∷ getD bytes (a + 1) 0 ∷ getD bytes (a + 2) 0 ∷ [] ≡ part bytes a 3
@@ -174,17 +148,15 @@ pieces (b ∷ xs) k l m e =
     rw (add-comm 1 k, add-one, add-comm 1 (k + l), add-one, ← drop-drop l k xs, ← take-add l m (drop k xs), ← take-add k (l + m) xs)
     (ap (λ (r : List ℕ). b ∷ r) (take-all (k + (l + m)) xs (omega arith)))
 
-module _ (bytes : List ℕ) (e : length bytes ≡ stateBytes) (small : (i : ℕ) → getD bytes i 0 < 256) (h : isState bytes ≡ true) where
+module _ (bytes : List ℕ) (e : length bytes ≡ stateBytes) (small : AreBytes bytes) where
   slots-there : joined slotBytes (slotsIn bytes) ≡ part bytes slotsAt 72
-  unfolding slotsIn isState
+  unfolding slotsIn
   slots-there =
       joined-each 3 slotBytes (λ k. slotIn bytes (slotsAt + 3 * k)) bytes slotsAt slotCount
-      (λ k l.
-      rw (flag-there (getD bytes (slotsAt + 3 * k) 0) (leb-true (getD bytes (slotsAt + 3 * k) 0) 1 (everyBelow-at slotCount (λ n. leb (getD bytes (slotsAt + 3 * n) 0) 1) h k l)))
-      (part-three bytes (slotsAt + 3 * k) (rw e (omega arith))))
+      (λ k l. part-three bytes (slotsAt + 3 * k) (rw e (omega arith)))
 
   sizes-there : (a : ℕ) → a + 32 ≤ stateBytes → joined numberBytes (sizesIn bytes a) ≡ part bytes a 32
-  unfolding sizesIn
+  unfolding sizesIn AreBytes
   sizes-there a m =
       joined-each 4 numberBytes (λ f. numberIn bytes (a + 4 * f)) bytes a files
       (λ f l.
@@ -193,18 +165,8 @@ module _ (bytes : List ℕ) (e : length bytes ≡ stateBytes) (small : (i : ℕ)
   there : encode (decode bytes) ≡ bytes
   unfolding decode encode
   there =
-      rw (eq-eqb (length bytes) stateBytes e, h, slots-there, sizes-there logicalAt (omega arith), sizes-there floorAt (omega arith))
+      rw (eq-eqb (length bytes) stateBytes e, slots-there, sizes-there logicalAt (omega arith), sizes-there floorAt (omega arith))
       (pieces bytes 72 32 32 e)
 
--- ---- bytes that are no state
-
-nothing : (P : ℕ) (stored bytes : List ℕ) → isState bytes ≡ false → isSound P stored (decode bytes) ≡ false
-unfolding decode isSound soundTests
-nothing P stored bytes h = cases (eqb (length bytes) stateBytes) (λ e. rw (e, h)) (λ e. rw e)
-
-other : (P : ℕ) (stored bytes : List ℕ) → length bytes ≢ stateBytes → isSound P stored (decode bytes) ≡ false
-unfolding decode isSound soundTests
-other P stored bytes n = rw (ne-eqb (length bytes) stateBytes n)
-
 pub inverse : Inverse
-inverse = record { there-and-back = back; back-and-there = there; no-state = nothing; other-length = other }
+inverse = record { there-and-back = back; back-and-there = there }

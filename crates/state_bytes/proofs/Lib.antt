@@ -1,5 +1,5 @@
 pub mod Encoding
 pub mod InPlace
 pub mod Inverse
-pub mod OnState
+pub mod OnBytes
 pub mod Zeros

@@ -9,12 +9,12 @@ use mathlib.Core.Bool.{Bool, cond, _&&_}
 use mathlib.Core.List.{List, [], _∷_, _++_}
 use lib.Dec.{eqb, ltb, leb}
 use lib.ListN.{length, getD}
-use Rattle.memory.specs.Bytes.{zeros, overwrite}
+use Rattle.memory.specs.Bytes.{overwrite}
 use Rattle.scan.specs.Scan.{everyBelow}
 use Rattle.media.specs.Geometry.{files}
 use Rattle.device.specs.declared.Slot.{Slot}
 use Rattle.device.specs.declared.CacheState.{CacheState}
-use Rattle.device.specs.Device.{slotCount, noSlots}
+use Rattle.device.specs.Device.{slotCount, downState}
 
 -- the number of bytes, and where the slots, the logical sizes and the floors begin
 abbrev pub stateBytes : ℕ
@@ -32,7 +32,7 @@ floorAt = 105
 -- ---- written
 
 abbrev pub slotBytes : Slot → List ℕ
-slotBytes s = cond (s .used) 1 0 ∷ s .file ∷ s .page ∷ []
+slotBytes s = s .used ∷ s .file ∷ s .page ∷ []
 
 -- a 32-bit number in four bytes, low byte first
 abbrev pub numberBytes : ℕ → List ℕ
@@ -48,9 +48,8 @@ encode s = s .mounted ∷ (joined slotBytes (s .slots) ++ (joined numberBytes (s
 
 -- ---- read
 
--- the low bit of its first byte says whether it is used; bytes with any other bit there are no state
 abbrev pub slotIn : List ℕ → ℕ → Slot
-slotIn bytes a = record { used = eqb (getD bytes a 0 % 2) 1; file = getD bytes (a + 1) 0; page = getD bytes (a + 2) 0 }
+slotIn bytes a = record { used = getD bytes a 0; file = getD bytes (a + 1) 0; page = getD bytes (a + 2) 0 }
 
 abbrev pub numberIn : List ℕ → ℕ → ℕ
 numberIn bytes a = getD bytes a 0 + 256 * getD bytes (a + 1) 0 + 65536 * getD bytes (a + 2) 0 + 16777216 * getD bytes (a + 3) 0
@@ -66,29 +65,12 @@ slotsIn bytes = each slotCount (λ k. slotIn bytes (slotsAt + 3 * k))
 unfoldable pub sizesIn : List ℕ → ℕ → List ℕ
 sizesIn bytes a = each files (λ f. numberIn bytes (a + 4 * f))
 
--- the first byte of each slot is 0 or 1: all else that bytes can say is some state
-unfoldable pub isState : List ℕ → Bool
-isState bytes = everyBelow slotCount (λ k. leb (getD bytes (slotsAt + 3 * k) 0) 1)
-
--- an up mark that no sound state has
-abbrev pub noMark : ℕ
-noMark = 2
-
--- what bytes of another length say
-abbrev pub noState : CacheState
-noState = record { mounted = noMark; slots = noSlots; logical = zeros files; floor = zeros files }
-
--- bytes that are no state say one that is not sound
+-- bytes of another length say the down state
 unfoldable pub decode : List ℕ → CacheState
 decode bytes =
     cond (eqb (length bytes) stateBytes)
-    (record {
-      mounted = cond (isState bytes) (getD bytes 0 0) noMark;
-      slots = slotsIn bytes;
-      logical = sizesIn bytes logicalAt;
-      floor = sizesIn bytes floorAt;
-    })
-    noState
+    (record { mounted = getD bytes 0 0; slots = slotsIn bytes; logical = sizesIn bytes logicalAt; floor = sizesIn bytes floorAt })
+    downState
 
 -- a buffer after the state was written to it; one of another length stays as it is
 unfoldable pub encoded : CacheState → List ℕ → List ℕ

@@ -1,16 +1,18 @@
--- A call on a device whose cache state is lent as bytes: what it does to the device that they say.
+-- A call on a device whose cache state is lent as bytes: SHAPE where they are not as many as a state has, or else what it does to the
+-- device that they say.
 use Prim.Native.Nat.{ℕ}
-use mathlib.Core.Path.{_≡_}
-use mathlib.Core.Bool.{Bool, cond, _||_}
-use mathlib.Core.List.{List, [], _∷_}
+use mathlib.Core.Bool.{Bool}
+use mathlib.Core.List.{List, [], _∷_, _++_}
 use lib.Dec.{eqb}
 use lib.ListN.{length}
 use Rattle.answer.specs.Coded.{Coded, SHAPE}
-use Rattle.answer.specs.Admission.{Test, test}
+use Rattle.answer.specs.Admission.{Test, test, firstRefusal, ifDone}
 use Rattle.media.specs.Write.{Media}
-use Rattle.device.specs.declared.CacheState.{CacheState}
+use Rattle.device.specs.declared.Span.{Span}
 use Rattle.device.specs.Device.{Device, deviceOf}
-use Rattle.device.specs.Admission.{Result, give, admit}
+use Rattle.device.specs.Admission.{Result, give, admit, fileTests}
+use Rattle.device.specs.Reading.{read}
+use Rattle.device.specs.Looking.{lookCount, lookedSpan, noSpan}
 use Rattle.state_bytes.specs.Encoding.{stateBytes, encode, decode}
 
 -- the device as it is lent
@@ -29,28 +31,28 @@ deviceIn l = deviceOf (l .media) (l .frames) (decode (l .state))
 abbrev pub lentOf : Device → Lent
 lentOf d = lent (d .media) (d .frames) (encode (d .cache))
 
--- the bytes are those of the state that they say
-abbrev pub IsEncoded : List ℕ → Type 0
-IsEncoded state = encode (decode state) ≡ state
-
--- done or cut: the answers of calls that leave a state of their own
-abbrev pub leavesState : Coded → Bool
-leavesState a = eqb (a .number) 0 || eqb (a .number) 9
-
--- the bytes after a call: the state that it leaves, or as they came
-unfoldable pub stateAfter : Coded → CacheState → List ℕ → List ℕ
-stateAfter a s before = cond (leavesState a) (encode s) before
-
--- write, truncate and sync, which refuse bytes that say no sound state
-abbrev pub onState : (Device → Result Device) → Lent → Result Lent
-onState call l =
-    let r : Result Device = call (deviceIn l) in
-    give (r .answer) (lent (r .left .media) (r .left .frames) (stateAfter (r .answer) (r .left .cache) (l .state)))
-
--- SHAPE, before all others: the buffer is not as long as a state
+-- before all other tests
 unfoldable pub stateShape : List ℕ → List Test
 stateShape state = test (eqb (length state) stateBytes) SHAPE ∷ []
 
--- mount and format, which do not look at the bytes; and every linked call that changes the device
+-- the order for the calls on a file
+abbrev pub lentTests : ℕ → Lent → ℕ → Bool → List Test
+lentTests P l f range = stateShape (l .state) ++ fileTests P (deviceIn l) f range
+
+-- what a call leaves, with its state as bytes
+abbrev pub inBytes : Result Device → Result Lent
+inBytes r = give (r .answer) (lentOf (r .left))
+
+-- the calls that change the device
 unfoldable pub onBytes : (Device → Result Device) → Lent → Result Lent
-onBytes call l = admit (stateShape (l .state)) l (onState call l)
+onBytes call l = admit (stateShape (l .state)) l (inBytes (call (deviceIn l)))
+
+-- read and look
+unfoldable pub readBytes : ℕ → ℕ → ℕ → List ℕ → Lent → Result (List ℕ)
+readBytes P f position buffer l = admit (stateShape (l .state)) buffer (read P f position buffer (deviceIn l))
+
+unfoldable pub lookCountBytes : ℕ → ℕ → ℕ → Lent → Coded
+lookCountBytes P f position l = firstRefusal (stateShape (l .state)) (lookCount P f position (deviceIn l))
+
+unfoldable pub lookSpanBytes : ℕ → ℕ → ℕ → Lent → Span
+lookSpanBytes P f position l = ifDone (lookCountBytes P f position l) (lookedSpan P f position (deviceIn l)) noSpan

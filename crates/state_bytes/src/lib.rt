@@ -1,17 +1,16 @@
 // The cache state as bytes in a borrowed buffer: written and read as a whole, and read and changed in place.
 //
-// specs/Encoding.antt has the layout. `encode` and `decode` are inverse on every state; bytes that are no state decode to one that
-// is not sound. What is read in place is what the decoded state has.
+// specs/Encoding.antt has the layout. `encode` and `decode` are inverse: every state has its bytes, and every STATE_BYTES bytes are those
+// of a state. What is read in place is what the decoded state has.
 use device::CacheState;
 use device::Slot;
 ghost use mathlib.Core.Path.{_≡_};
-ghost use mathlib.Core.Bool.{cond};
 ghost use Prim.Native.Nat.{_+_, _*_, _≤_, _<_};
 ghost use lib.ListN.{length, getD};
 ghost use Rattle.memory.specs.Bytes.{overwrite};
 ghost use Rattle.media.specs.Geometry.{files};
 ghost use Rattle.device.specs.Device.{freeSlot};
-ghost use Rattle.state_bytes.specs.Encoding.{stateBytes, slotsAt, slotBytes, numberBytes, joined, encoded, slotIn, numberIn, slotsIn, sizesIn, isState, noMark, decode, logicalAt, floorAt, slotSet, sizeSet, zerosFrom, eightFree};
+ghost use Rattle.state_bytes.specs.Encoding.{stateBytes, slotsAt, slotBytes, numberBytes, joined, encoded, slotIn, numberIn, slotsIn, sizesIn, decode, logicalAt, floorAt, slotSet, sizeSet, zerosFrom, eightFree};
 
 // The length of the buffer.
 pub const STATE_BYTES: usize = 137;
@@ -23,21 +22,11 @@ const LOGICAL_AT: usize = 73;
 
 const FLOOR_AT: usize = 105;
 
-// The up mark of bytes that are no state.
-const NO_MARK: u8 = 2;
-
-// 1 for true, 0 for false.
-fn flag(b: bool) -> u8
-    ensures { λ r. ⌜ r ≡ cond b 1 0 ⌝ }
-{
-    if b { 1 } else { 0 }
-}
-
 fn put_slot(state: &mut [u8], at: usize, s: Slot)
     requires { ⌜ (length (now state) ≡ stateBytes) × (at + 3 ≤ stateBytes) ⌝ }
     ensures { λ r. ⌜ now (state .exit) ≡ overwrite (now (state .entry)) at (slotBytes s) ⌝ }
 {
-    state[at] = flag(s.used);
+    state[at] = s.used;
     state[at + 1] = s.file;
     state[at + 2] = s.page;
 }
@@ -96,7 +85,7 @@ fn slot_in(state: &[u8], at: usize) -> Slot
     ensures { λ r. ⌜ r ≡ slotIn (now (state .entry)) at ⌝ }
 {
     Slot {
-        used: state[at] % 2 == 1,
+        used: state[at],
         file: state[at + 1],
         page: state[at + 2],
     }
@@ -147,49 +136,20 @@ fn sizes_in(state: &[u8], at: usize) -> [u32; media::FILES]
     sizes
 }
 
-// Whether the first byte of each slot is 0 or 1.
-fn is_state(state: &[u8]) -> bool
-    requires { ⌜ length (now state) ≡ stateBytes ⌝ }
-    ensures { λ r. ⌜ r ≡ isState (now (state .entry)) ⌝ }
-{
-    let mut k = 0;
-    while k < device::SLOTS {
-        if 1 < state[SLOTS_AT + 3 * k] {
-            return false;
-        }
-        k += 1;
-    }
-    true
-}
-
-fn mark_in(state: &[u8]) -> u8
-    requires { ⌜ length (now state) ≡ stateBytes ⌝ }
-    ensures { λ r. ⌜ r ≡ cond (isState (now (state .entry))) (getD (now (state .entry)) 0 0) noMark ⌝ }
-{
-    if is_state(state) {
-        return state[0];
-    }
-    NO_MARK
-}
-
-// The state that the bytes say; bytes that are no state, or of another length, give one that is not sound.
+// The state that the bytes say. Bytes of another length say the down state.
 pub fn decode(state: &[u8]) -> CacheState
     ensures { λ r. ⌜ r ≡ decode (now (state .entry)) ⌝ }
 {
     if state.len() == STATE_BYTES {
+        let mounted = state[0];
         return CacheState {
-            mounted: mark_in(state),
+            mounted,
             slots: slots_in(state),
             logical: sizes_in(state, LOGICAL_AT),
             floor: sizes_in(state, FLOOR_AT),
         };
     }
-    CacheState {
-        mounted: NO_MARK,
-        slots: device::no_slots(),
-        logical: [0; media::FILES],
-        floor: [0; media::FILES],
-    }
+    device::down_state()
 }
 
 // Slot k; a free one where there is no such slot.

@@ -2,7 +2,7 @@
 //
 // Each carries out a plan of media writes. Where the budget pays for all of them, it is done with their number as count. Where it
 // does not, as many first writes are done as it pays for, the answer is CUT, and the state that is left is down. The state is lent as
-// bytes. Mount and format do not look at them, and refuse a buffer of another length.
+// bytes. Of these, mount and format look at their number only.
 use answer::Answer;
 use answer::Refusal;
 use device::CacheState;
@@ -23,8 +23,8 @@ ghost use Rattle.device.specs.Admission.{give};
 ghost use Rattle.device.specs.Plan.{writeIf, budgeted, Spent};
 ghost use Rattle.device.specs.Syncing.{pageWrites, syncPlan, syncedState, sync};
 ghost use Rattle.device.specs.Mounting.{nonzeroFrom, mountPlan, mount, formatPlan, format};
-ghost use Rattle.state_bytes.specs.Encoding.{stateBytes, encoded, decode};
-ghost use Rattle.state_bytes.specs.InPlace.{lent, IsEncoded, onState, onBytes};
+ghost use Rattle.state_bytes.specs.Encoding.{stateBytes, encode, decode};
+ghost use Rattle.state_bytes.specs.InPlace.{lent, inBytes, onBytes};
 ghost use Rattle.cache_state.specs.Tables.{slotTable};
 
 // TRIM, if it is wanted and the budget pays. The number of writes needed so far comes back, with this one.
@@ -171,8 +171,8 @@ fn sync_writes(
 
 // The state after a sync of a file: its pages are free, and its floor is its logical size.
 fn sync_state(state: &mut [u8], file: usize)
-    requires { ⌜ IsEncoded (now state) ⌝ }
-    ensures { λ r. ⌜ (decode (now (state .exit)) ≡ syncedState (decode (now (state .entry))) file) × IsEncoded (now (state .exit)) ⌝ }
+    requires { ⌜ length (now state) ≡ stateBytes ⌝ }
+    ensures { λ r. ⌜ decode (now (state .exit)) ≡ syncedState (decode (now (state .entry))) file ⌝ }
 {
     let logical = state_bytes::logical_at(state, file);
     cache_state::free_pages_from(state, file, 0);
@@ -181,9 +181,10 @@ fn sync_state(state: &mut [u8], file: usize)
 
 // CUT, of a call whose budget did not pay for all its writes: the state becomes the down state.
 fn cut(state: &mut [u8], budget: usize) -> Answer
-    ensures { λ r. ⌜ (coded r ≡ CUT budget) × (now (state .exit) ≡ encoded downState (now (state .entry))) ⌝ }
+    requires { ⌜ length (now state) ≡ stateBytes ⌝ }
+    ensures { λ r. ⌜ (coded r ≡ CUT budget) × (now (state .exit) ≡ encode downState) ⌝ }
 {
-    state_bytes::encode(cache_state::down_state(), state);
+    state_bytes::encode(device::down_state(), state);
     Answer::Refused(Refusal::Cut(budget))
 }
 
@@ -198,7 +199,7 @@ pub fn sync(
     budget: usize,
 ) -> Answer
     ensures { λ r. ⌜ give (coded r) (lent (mediaOf (now (media .exit)) (now (sizes .exit))) (now (frames .entry)) (now (state .exit)))
-        ≡ onState (sync pagesPerFile file budget) (lent (mediaOf (now (media .entry)) (now (sizes .entry))) (now (frames .entry)) (now (state .entry))) ⌝ }
+        ≡ onBytes (sync pagesPerFile file budget) (lent (mediaOf (now (media .entry)) (now (sizes .entry))) (now (frames .entry)) (now (state .entry))) ⌝ }
 {
     let mut slots = [0u8; cache_state::TABLE];
     let admission = cache_state::admit(
@@ -228,7 +229,7 @@ pub fn sync(
 fn finish(state: &mut [u8], writes: usize, budget: usize, cache: CacheState) -> Answer
     requires { ⌜ length (now state) ≡ stateBytes ⌝ }
     ensures { λ r. ⌜ ((m : Media) (frames : List ℕ) → give (coded r) (lent m frames (now (state .exit)))
-        ≡ onState (λ d. budgeted budget writes m frames cache) (lent m frames (now (state .entry)))) ⌝ }
+        ≡ inBytes (budgeted budget writes m frames cache)) ⌝ }
 {
     if budget < writes {
         return cut(state, budget);
@@ -326,15 +327,12 @@ fn sizes_array(sizes: &[u32]) -> [u32; media::FILES]
 }
 
 // Mount: brings the device up, with no page cached and the stored sizes. Bytes past a stored size are cleared first, by TRIM.
-// The state that comes in is not looked at.
+// Of the state that comes in only the length is looked at.
 pub fn mount(media: &mut [u8], sizes: &mut [u32], state: &mut [u8], budget: usize) -> Answer
     ensures { λ r. ⌜ ((frames : List ℕ) → give (coded r) (lent (mediaOf (now (media .exit)) (now (sizes .exit))) frames (now (state .exit)))
         ≡ onBytes (mount pagesPerFile budget) (lent (mediaOf (now (media .entry)) (now (sizes .entry))) frames (now (state .entry)))) ⌝ }
 {
-    if state.len() != state_bytes::STATE_BYTES {
-        return Answer::Refused(Refusal::Shape);
-    }
-    let admission = cache_state::admit_mount(media.len(), sizes);
+    let admission = cache_state::admit_mount(media.len(), sizes, state);
     match admission {
         Answer::Refused(refusal) => Answer::Refused(refusal),
         Answer::Done(_) => {
@@ -373,20 +371,18 @@ fn format_files(media: &mut [u8], sizes: &mut [u32], budget: usize) -> usize
     needed
 }
 
-// Format: empties all files, by TRIM to 0. The device is down after it, done or cut. The state that comes in is not looked at.
+// Format: empties all files, by TRIM to 0. The device is down after it, done or cut. Of the state that comes in only the length is
+// looked at.
 pub fn format(media: &mut [u8], sizes: &mut [u32], state: &mut [u8], budget: usize) -> Answer
     ensures { λ r. ⌜ ((frames : List ℕ) → give (coded r) (lent (mediaOf (now (media .exit)) (now (sizes .exit))) frames (now (state .exit)))
         ≡ onBytes (format pagesPerFile budget) (lent (mediaOf (now (media .entry)) (now (sizes .entry))) frames (now (state .entry)))) ⌝ }
 {
-    if state.len() != state_bytes::STATE_BYTES {
-        return Answer::Refused(Refusal::Shape);
-    }
-    let admission = cache_state::admit_format(media.len(), sizes);
+    let admission = cache_state::admit_format(media.len(), sizes, state);
     match admission {
         Answer::Refused(refusal) => Answer::Refused(refusal),
         Answer::Done(_) => {
             let trims = format_files(media, sizes, budget);
-            finish(state, trims, budget, cache_state::down_state())
+            finish(state, trims, budget, device::down_state())
         }
     }
 }

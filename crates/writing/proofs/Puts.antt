@@ -3,7 +3,7 @@ use mathlib.Core.Path.{_≡_, refl, sym, ap, _∙_}
 use mathlib.Core.Logic.{_≢_}
 use mathlib.Core.Bool.{Bool, true, false, cond}
 use mathlib.Core.List.{List, []}
-use Prim.Native.Nat.{ℕ, zero, suc, _+_, _<_, _≤_, _-_, _*_, _/_, _%_, min}
+use Prim.Native.Nat.{ℕ, zero, suc, _+_, _<_, _≤_, _-_, _/_, _%_, min}
 use native.Mathlib.Omega.{arith}
 use lib.ListN.{length, getD, drop, length-drop}
 use lib.Seq.{drop-drop}
@@ -18,7 +18,7 @@ use Rattle.device.specs.declared.CacheState.{CacheState}
 use Rattle.cache_state.specs.Tables.{slotTable, slotFor}
 use Rattle.cache_state.proofs.Pass.{slot-for}
 use Rattle.scan.proofs.Scan.{first-set}
-use Rattle.device.specs.Device.{Device, deviceOf, slotCount, freeSlot, isFree, holds, slotOf, isCached, firstFree}
+use Rattle.device.specs.Device.{Device, deviceOf, slotCount, freeSlot, usedSlot, isFree, holds, slotOf, isCached, firstFree}
 use Rattle.device.specs.Writing.{hasSlot, cachePage, patchPage, putPage, andMore, putPages}
 use Rattle.device.proofs.Device.{holds-one, free-holds, first-free-was-free}
 use Rattle.device.proofs.Writing.{pages-none, pages-stop, pages-next}
@@ -46,8 +46,8 @@ other-slot P f p q offset bytes d l h ne =
     (λ e.
     let j : firstFree d < slotCount = ltb-true (firstFree d) slotCount (rw e at h) in
     rw e
-    (first-set (holds f q) (d .cache .slots) (firstFree d) (record { used = true; file = f; page = p }) freeSlot
-    (holds-one f p f q (record { used = true; file = f; page = p }) refl refl (λ k. ne (k .1)))
+    (first-set (holds f q) (d .cache .slots) (firstFree d) (usedSlot f p) freeSlot
+    (holds-one f p f q (usedSlot f p) refl refl (λ k. ne (k .1)))
     (free-holds f q (getD (d .cache .slots) (firstFree d) freeSlot) (first-free-was-free d (omega arith)))))
 
 -- what a page step left, by whether the page had a slot

@@ -27,8 +27,8 @@ ghost use Rattle.device.specs.Sound.{sizesIn};
 ghost use Rattle.device.specs.Sizes.{truncatedSizes, sizesAnswer, sizesAfter};
 ghost use Rattle.device.specs.Writing.{hasSlot, filledPage, cachePage, putPage, putPages, write};
 ghost use Rattle.device.specs.Truncating.{pagesFrom, clearTail, withSizes, truncate};
-ghost use Rattle.state_bytes.specs.Encoding.{decode};
-ghost use Rattle.state_bytes.specs.InPlace.{lent, IsEncoded, onState};
+ghost use Rattle.state_bytes.specs.Encoding.{stateBytes, decode};
+ghost use Rattle.state_bytes.specs.InPlace.{lent, onBytes};
 ghost use Rattle.cache_state.specs.Tables.{slotTable};
 
 // The bytes are laid over the page frames from `at` on.
@@ -40,32 +40,29 @@ fn patch_frames(frames: &mut [u8], at: usize, bytes: &[u8])
     memory::copy(&mut frames[at..end], bytes);
 }
 
-// The page frame of slot k gets a page as it becomes cached: a blank page, overlaid with the bytes of the media below the floor. Where
-// these fill the page, there is no need of a blank one.
-fn fill_frame(
-    media: &[u8],
-    frames: &mut [u8],
-    floor: usize,
-    file: usize,
-    page: usize,
-    k: usize,
-    pages: usize,
-)
-    requires { ⌜ (fileBytes pages < 2 ^ 32) × (length (now media) ≡ mediaBytes pages) × (length (now frames) ≡ framesBytes) × (file < files) × (page < pages)
-        × (k < slotCount) ⌝ }
-    ensures { λ r. ⌜ ((stored : List ℕ) (c : CacheState) → floor ≡ getD (c .floor) file 0 → now (frames .exit)
-        ≡ overwrite (now (frames .entry)) (frameStart k) (filledPage pages (deviceOf (mediaOf (now (media .entry)) stored) (now (frames .entry)) c) file page)) ⌝ }
+// A page as it becomes cached: a blank one, overlaid with the bytes of the media below the floor.
+fn filled_page(media: &[u8], floor: usize, file: usize, page: usize, pages: usize) -> [u8; 256]
+    requires { ⌜ (fileBytes pages < 2 ^ 32) × (length (now media) ≡ mediaBytes pages) × (file < files) × (page < pages) ⌝ }
+    ensures { λ r. ⌜ ((stored frames : List ℕ) (c : CacheState) → floor ≡ getD (c .floor) file 0
+        → r ≡ filledPage pages (deviceOf (mediaOf (now (media .entry)) stored) frames c) file page) ⌝ }
 {
     let at = PAGE_BYTES * page;
     let from = file * (PAGE_BYTES * pages) + at;
     let end = from + number::min(PAGE_BYTES, number::saturating_sub(floor, at));
-    if end - from < PAGE_BYTES {
-        let blank = [0u8; 256];
-        patch_frames(frames, PAGE_BYTES * k, &blank);
-        patch_frames(frames, PAGE_BYTES * k, &media[from..end]);
-    } else {
-        patch_frames(frames, PAGE_BYTES * k, &media[from..end]);
-    }
+    let mut bytes = [0u8; 256];
+    memory::copy(&mut bytes, &media[from..end]);
+    bytes
+}
+
+// A page is laid into the frame of slot k, in halves, which are short enough that the compiler copies them without a call.
+fn put_frame(frames: &mut [u8], k: usize, page: &[u8])
+    requires { ⌜ (length (now frames) ≡ framesBytes) × (k < slotCount) × (length (now page) ≡ pageBytes) ⌝ }
+    ensures { λ r. ⌜ now (frames .exit) ≡ overwrite (now (frames .entry)) (frameStart k) (now (page .entry)) ⌝ }
+{
+    let at = PAGE_BYTES * k;
+    let half = PAGE_BYTES / 2;
+    patch_frames(frames, at, &page[..half]);
+    patch_frames(frames, at + half, &page[half..]);
 }
 
 // A page becomes cached, in slot k, the first that is free.
@@ -79,15 +76,15 @@ fn cache_page(
     pages: usize,
 )
     requires { ⌜ (fileBytes pages < 2 ^ 16) × (length (now media) ≡ mediaBytes pages) × (length (now frames) ≡ framesBytes) × (file < files) × (page < pages)
-        × (k < slotCount) × (k ≡ firstIndex isFree ((decode (now state)) .slots)) × IsEncoded (now state) ⌝ }
+        × (k < slotCount) × (k ≡ firstIndex isFree ((decode (now state)) .slots)) × (length (now state) ≡ stateBytes) ⌝ }
     ensures { λ r. ⌜ ((stored : List ℕ) → deviceOf (mediaOf (now (media .entry)) stored) (now (frames .exit)) (decode (now (state .exit)))
-        ≡ cachePage pages file page (deviceOf (mediaOf (now (media .entry)) stored) (now (frames .entry)) (decode (now (state .entry)))))
-        × IsEncoded (now (state .exit)) ⌝ }
+        ≡ cachePage pages file page (deviceOf (mediaOf (now (media .entry)) stored) (now (frames .entry)) (decode (now (state .entry))))) ⌝ }
 {
     let floor = state_bytes::floor_at(state, file) as usize;
-    fill_frame(media, frames, floor, file, page, k, pages);
+    let bytes = filled_page(media, floor, file, page, pages);
+    put_frame(frames, k, &bytes);
     let slot = Slot {
-        used: true,
+        used: 1,
         file: file as u8,
         page: page as u8,
     };
@@ -108,12 +105,11 @@ fn put_page(
     pages: usize,
 ) -> bool
     requires { ⌜ (fileBytes pages < 2 ^ 16) × (length (now media) ≡ mediaBytes pages) × (length (now frames) ≡ framesBytes) × (file < files) × (page < pages)
-        × (offset + length (now bytes) ≤ pageBytes) × (k ≡ firstIndex (holds file page) ((decode (now state)) .slots)) × IsEncoded (now state) ⌝ }
+        × (offset + length (now bytes) ≤ pageBytes) × (k ≡ firstIndex (holds file page) ((decode (now state)) .slots)) × (length (now state) ≡ stateBytes) ⌝ }
     ensures { λ r. ⌜ (r ≡ hasSlot (deviceOf (mediaOf [] []) [] (decode (now (state .entry)))) file page)
         × ((stored : List ℕ) → deviceOf (mediaOf (now (media .entry)) stored) (now (frames .exit)) (decode (now (state .exit)))
         ≡ cond r (putPage pages file page offset (now (bytes .entry)) (deviceOf (mediaOf (now (media .entry)) stored) (now (frames .entry)) (decode (now (state .entry)))))
-        (deviceOf (mediaOf (now (media .entry)) stored) (now (frames .entry)) (decode (now (state .entry)))))
-        × IsEncoded (now (state .exit)) ⌝ }
+        (deviceOf (mediaOf (now (media .entry)) stored) (now (frames .entry)) (decode (now (state .entry))))) ⌝ }
 {
     if k < SLOTS {
         patch_frames(frames, PAGE_BYTES * k + offset, bytes);
@@ -140,10 +136,9 @@ fn put_pages(
     bytes: &[u8],
 ) -> usize
     requires { ⌜ (length (now media) ≡ mediaBytes pagesPerFile) × (length (now frames) ≡ framesBytes) × (file < files)
-        × (position + length (now bytes) ≤ fileBytes pagesPerFile) × (now slots ≡ slotTable pagesPerFile ((decode (now state)) .slots)) × IsEncoded (now state) ⌝ }
+        × (position + length (now bytes) ≤ fileBytes pagesPerFile) × (now slots ≡ slotTable pagesPerFile ((decode (now state)) .slots)) × (length (now state) ≡ stateBytes) ⌝ }
     ensures { λ r. ⌜ ((stored : List ℕ) → record { device = deviceOf (mediaOf (now (media .entry)) stored) (now (frames .exit)) (decode (now (state .exit))); count = r }
-        ≡ putPages pagesPerFile file pagesPerFile position (now (bytes .entry)) (deviceOf (mediaOf (now (media .entry)) stored) (now (frames .entry)) (decode (now (state .entry)))))
-        × IsEncoded (now (state .exit)) ⌝ }
+        ≡ putPages pagesPerFile file pagesPerFile position (now (bytes .entry)) (deviceOf (mediaOf (now (media .entry)) stored) (now (frames .entry)) (decode (now (state .entry))))) ⌝ }
 {
     let mut from = 0;
     while from < bytes.len() {
@@ -183,9 +178,8 @@ fn sum_fits(position: usize, n: usize, limit: usize) -> bool
 
 // File `file` is at least n bytes long.
 fn grow(state: &mut [u8], file: usize, n: usize)
-    requires { ⌜ (file < files) × (n < 2 ^ 32) × IsEncoded (now state) ⌝ }
-    ensures { λ r. ⌜ (decode (now (state .exit)) ≡ withLogical (decode (now (state .entry))) file (max (getD ((decode (now (state .entry))) .logical) file 0) n))
-        × IsEncoded (now (state .exit)) ⌝ }
+    requires { ⌜ (file < files) × (n < 2 ^ 32) × (length (now state) ≡ stateBytes) ⌝ }
+    ensures { λ r. ⌜ decode (now (state .exit)) ≡ withLogical (decode (now (state .entry))) file (max (getD ((decode (now (state .entry))) .logical) file 0) n) ⌝ }
 {
     let logical = state_bytes::logical_at(state, file) as usize;
     state_bytes::set_logical(state, file, number::max(logical, n) as u32);
@@ -203,7 +197,7 @@ pub fn write(
     bytes: &[u8],
 ) -> Answer
     ensures { λ r. ⌜ give (coded r) (lent (mediaOf (now (media .entry)) (now (sizes .entry))) (now (frames .exit)) (now (state .exit)))
-        ≡ onState (write pagesPerFile file position (now (bytes .entry))) (lent (mediaOf (now (media .entry)) (now (sizes .entry))) (now (frames .entry)) (now (state .entry))) ⌝ }
+        ≡ onBytes (write pagesPerFile file position (now (bytes .entry))) (lent (mediaOf (now (media .entry)) (now (sizes .entry))) (now (frames .entry)) (now (state .entry))) ⌝ }
 {
     let in_range = sum_fits(position, bytes.len(), PAGE_BYTES * PAGES_PER_FILE);
     let mut slots = [0u8; TABLE];
@@ -252,10 +246,9 @@ fn truncated_sizes(s: FileSizes, n: u32) -> FileSizes
 
 // The state after a truncate of a file to n bytes. It has no part in the stored size.
 fn truncate_state(state: &mut [u8], file: usize, n: usize)
-    requires { ⌜ (file < files) × (n < 2 ^ 32) × IsEncoded (now state) ⌝ }
-    ensures { λ r. ⌜ (decode (now (state .exit)) ≡ withSizes file (truncatedSizes n (sizesIn [] (decode (now (state .entry))) file))
-        (withSlots (decode (now (state .entry))) (map (freeWhere (pagesFrom file n)) ((decode (now (state .entry))) .slots))))
-        × IsEncoded (now (state .exit)) ⌝ }
+    requires { ⌜ (file < files) × (n < 2 ^ 32) × (length (now state) ≡ stateBytes) ⌝ }
+    ensures { λ r. ⌜ decode (now (state .exit)) ≡ withSizes file (truncatedSizes n (sizesIn [] (decode (now (state .entry))) file))
+        (withSlots (decode (now (state .entry))) (map (freeWhere (pagesFrom file n)) ((decode (now (state .entry))) .slots))) ⌝ }
 {
     let sizes = FileSizes {
         logical: state_bytes::logical_at(state, file),
@@ -303,7 +296,7 @@ pub fn truncate(
     n: usize,
 ) -> Answer
     ensures { λ r. ⌜ give (coded r) (lent (mediaOf (now (media .entry)) (now (sizes .entry))) (now (frames .exit)) (now (state .exit)))
-        ≡ onState (truncate pagesPerFile file n) (lent (mediaOf (now (media .entry)) (now (sizes .entry))) (now (frames .entry)) (now (state .entry))) ⌝ }
+        ≡ onBytes (truncate pagesPerFile file n) (lent (mediaOf (now (media .entry)) (now (sizes .entry))) (now (frames .entry)) (now (state .entry))) ⌝ }
 {
     let greatest = PAGE_BYTES * PAGES_PER_FILE;
     let mut slots = [0u8; TABLE];

@@ -1,31 +1,19 @@
--- `boxstore::boxstore_sync` meets its contract: SHAPE for the state, or the call on its bytes.
-use mathlib.Core.Path.{_≡_}
-use Prim.Native.Nat.{_≤_, _<_}
+-- `boxstore::boxstore_sync` meets its contract: the call on the bytes, in a word.
+use Prim.Native.Nat.{_+_}
 use native.Mathlib.Omega.{arith}
-use Rattle.answer.specs.Coded.{coded}
 use Rattle.media.specs.Geometry.{pagesPerFile}
-use Rattle.media.specs.Write.{mediaOf}
-use Rattle.state_bytes.specs.InPlace.{Lent, lent}
 use Rattle.device.specs.Syncing.{sync}
-use Rattle.boxstore.proofs.Counts.{counts, sync-small}
-use Rattle.boxstore.proofs.Replies.{on-shape, on-state}
+use Rattle.boxstore.proofs.Counts.{counts, on-small, sync-small}
+use Rattle.boxstore.proofs.Replies.{in-word}
 use borrow.Author.Needs.{needs}
 use Rattle.boxstore.proofs.boxstore_sync.Statement.{statement}
 use Rattle.boxstore.proofs.boxstore_sync.Tie as tie
-
-abbrev came : tie.Start → Lent
-came c = lent (mediaOf (c .args .media .now) (c .args .sizes .now)) (c .args .frames .now) (c .args .state .now)
-
-returns : tie.Need-returns
-returns c =
-    let s = c .before .before .before .before .before in
-    on-shape (came s) (λ e. omega arith) (sync pagesPerFile (s .args .file) (s .args .budget))
 
 sync-requires : tie.Need-sync-requires
 sync-requires c κs = search needs
 
 answer-word-requires : tie.Need-answer-word-requires
-answer-word-requires c κs = omega (arith, counts _ _ _ _ (c .before .before .before .before .before .before .sync .ensures) (sync-small pagesPerFile _ _ _))
+answer-word-requires c κs = omega (arith, counts _ _ _ _ (c .before .before .before .before .before .before .sync .ensures) (on-small (sync pagesPerFile _ _) (pagesPerFile + 2) (sync-small pagesPerFile _ _) _))
 
 same-length : tie.Need-same-length
 same-length c = search needs
@@ -36,19 +24,10 @@ same-length-2 c = search needs
 same-length-3 : tie.Need-same-length-3
 same-length-3 c = search needs
 
-returns-2 : tie.Need-returns-2
-returns-2 c =
-    let s = c .before .before .before .before .before .before .before .before .before .before .before .before .before .before .before .before in
-    on-state (came s) (omega arith) _ (sync pagesPerFile (s .args .file) (s .args .budget)) _ _ (c .before .before .before .before .before .before .before .sync .ensures) (c .answer-word .ensures)
+returns : tie.Need-returns
+returns c = in-word _ _ _ _ (c .before .before .before .before .before .before .before .sync .ensures) (c .answer-word .ensures)
 
 pub boxstore-sync-spec : {M : Type 1} → statement M
 boxstore-sync-spec =
     tie.close
-    (tie.spec
-    returns
-    sync-requires
-    answer-word-requires
-    same-length
-    same-length-2
-    same-length-3
-    returns-2)
+    (tie.spec sync-requires answer-word-requires same-length same-length-2 same-length-3 returns)

@@ -1,7 +1,10 @@
--- `cache::look_count` meets its contract: the bytes of the state say the state.
+-- `cache::look_count` meets its contract: the bytes of the state say the state, which comes back.
+use mathlib.Core.Path.{refl, _∙_}
+use Rattle.media.specs.Geometry.{pagesPerFile}
+use Rattle.media.specs.Write.{mediaOf}
 use Rattle.scan.proofs.Loops.{length-mapped}
 use Rattle.state_bytes.specs.Inverse.{Shaped}
-use Rattle.state_bytes.proofs.Inverse.{inverse}
+use Rattle.state_bytes.proofs.OnBytes.{same-count}
 use borrow.Author.Needs.{needs}
 use Rattle.cache.proofs.look_count.Statement.{statement}
 use Rattle.cache.proofs.look_count.Tie as tie
@@ -20,7 +23,12 @@ look-count-requires : tie.Need-look-count-requires
 look-count-requires c κs = search needs
 
 returns : tie.Need-returns
-returns c = rw (c .before .before .bytes-of .ensures, inverse .there-and-back _ (shaped (c .before .before .before .before .before .before))) at (c .look-count .ensures)
+returns c =
+    let s = c .before .before .before .before .before .before in (
+      (rw (c .before .before .bytes-of .ensures) at (c .look-count .ensures))
+          ∙ same-count (mediaOf (s .args .media .now) (s .args .sizes .now)) (s .args .frames .now) (s .args .cache) (shaped s) pagesPerFile (s .args .file) (s .args .position),
+      refl,
+    )
 
 pub look-count-spec : {M : Type 1} → statement M
 look-count-spec =

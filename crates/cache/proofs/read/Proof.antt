@@ -1,7 +1,10 @@
--- `cache::read` meets its contract: the bytes of the state say the state.
+-- `cache::read` meets its contract: the bytes of the state say the state, which comes back.
+use mathlib.Core.Path.{refl, _∙_}
+use Rattle.media.specs.Geometry.{pagesPerFile}
+use Rattle.media.specs.Write.{mediaOf}
 use Rattle.scan.proofs.Loops.{length-mapped}
 use Rattle.state_bytes.specs.Inverse.{Shaped}
-use Rattle.state_bytes.proofs.Inverse.{inverse}
+use Rattle.state_bytes.proofs.OnBytes.{same-read}
 use borrow.Author.Needs.{needs}
 use Rattle.cache.proofs.read.Statement.{statement}
 use Rattle.cache.proofs.read.Tie as tie
@@ -23,7 +26,12 @@ same-length : tie.Need-same-length
 same-length c = search needs
 
 returns : tie.Need-returns
-returns c = rw (c .before .before .before .before .before .bytes-of .ensures, inverse .there-and-back _ (shaped (c .before .before .before .before .before .before .before .before .before .before))) at (c .before .before .read .ensures)
+returns c =
+    let s = c .before .before .before .before .before .before .before .before .before .before in (
+      (rw (c .before .before .before .before .before .bytes-of .ensures) at (c .before .before .read .ensures))
+          ∙ same-read (mediaOf (s .args .media .now) (s .args .sizes .now)) (s .args .frames .now) (s .args .cache) (shaped s) pagesPerFile (s .args .file) (s .args .position) (s .args .buffer .now),
+      refl,
+    )
 
 pub read-spec : {M : Type 1} → statement M
 read-spec =

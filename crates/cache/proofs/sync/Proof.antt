@@ -1,11 +1,10 @@
 -- `cache::sync` meets its contract: the bytes of the state, the call on them, and the state that they say.
-use mathlib.Core.Path.{_≡_, _∙_}
 use Rattle.media.specs.Geometry.{pagesPerFile}
 use Rattle.media.specs.Write.{mediaOf}
 use Rattle.scan.proofs.Loops.{length-mapped}
 use Rattle.device.specs.Syncing.{sync}
 use Rattle.state_bytes.specs.Inverse.{Shaped}
-use Rattle.state_bytes.proofs.OnState.{back-on, sync-kept, sync-shaped}
+use Rattle.state_bytes.proofs.OnBytes.{back-on, sync-shaped}
 use borrow.Author.Needs.{needs}
 use Rattle.cache.proofs.sync.Statement.{statement}
 use Rattle.cache.proofs.sync.Tie as tie
@@ -39,7 +38,7 @@ returns : tie.Need-returns
 returns c =
     let s = c .before .before .before .before .before .before .before .before .before .before .before .before .before .before .before in
     rw (c .decode .ensures)
-    (back-on (sync pagesPerFile (s .args .file) (s .args .budget)) (λ d. sync-kept pagesPerFile d _ _) (λ d. sync-shaped pagesPerFile d _ _) (mediaOf (s .args .media .now) (s .args .sizes .now)) (s .args .frames .now) (s .args .cache) (shaped s) _ _ _ _
+    (back-on (mediaOf (s .args .media .now) (s .args .sizes .now)) (s .args .frames .now) (s .args .cache) (shaped s) (sync pagesPerFile (s .args .file) (s .args .budget)) (λ d. sync-shaped pagesPerFile d _ _) _ _ _ _
     (rw (c .before .before .before .before .before .before .before .before .before .before .before .bytes-of .ensures) at (c .before .before .before .before .before .before .before .sync .ensures)))
 
 pub sync-spec : {M : Type 1} → statement M

@@ -1,5 +1,5 @@
 -- `cache_state::admit_state` meets its contract: a sound state, then the tests of a mounted one.
-use mathlib.Core.Path.{_≡_, refl, sym, _∙_}
+use mathlib.Core.Path.{refl, sym, _∙_}
 use native.Mathlib.Omega.{arith}
 use Rattle.answer.specs.declared.Refusal.the-variants.{Books}
 use Rattle.answer.specs.Coded.{done}
@@ -10,7 +10,8 @@ use mathlib.Core.List.{List}
 use lib.ListN.{getD}
 use Rattle.device.specs.Admission.{mountedTests}
 use Rattle.state_bytes.specs.Encoding.{decode}
-use Rattle.cache_state.proofs.Soundness.{table-refused, refused-not-done, table-done, rest-sound, rest-unsound}
+use Rattle.state_bytes.proofs.InPlace.{mark-read}
+use Rattle.cache_state.proofs.Soundness.{table-refused, table-done, rest-sound, rest-unsound}
 use borrow.Author.Needs.{needs}
 use Rattle.cache_state.proofs.admit_state.Statement.{statement}
 use Rattle.cache_state.proofs.admit_state.Tie as tie
@@ -22,7 +23,7 @@ is-sound-requires : tie.Need-is-sound-requires
 is-sound-requires c κs = search needs
 
 shared-slice-read-admit-mounted : tie.Need-shared-slice-read-admit-mounted
-shared-slice-read-admit-mounted c = omega (arith, (c .before .before .is-sound .ensures .1 (c .before .if1 .taken)) .2)
+shared-slice-read-admit-mounted c = search needs
 
 admit-mounted-requires : tie.Need-admit-mounted-requires
 admit-mounted-requires c κs = search needs
@@ -40,9 +41,8 @@ returns c =
     let a = c .before .before .before .before .before .before .before .before .before .before .before .before .args in
     let r = c .before .before .answer .given .0 .0 in (
       rest-sound (a .sizes .now) (a .state .now) (a .file) (a .range) _ _ (sym (i .is-sound .ensures .0) ∙ c .before .before .before .before .before .before .if1 .taken)
-          (i .is-sound .ensures .1 (c .before .before .before .before .before .before .if1 .taken) .3) (coded-of _ _ _ (c .before .before .answer .given .1) (m .admit-mounted .ensures)),
+          (sym (mark-read (a .state .now) (omega arith))) (coded-of _ _ _ (c .before .before .answer .given .1) (m .admit-mounted .ensures)),
       c .none-cached2 .ensures ∙ table-refused r (decode (a .state .now) .slots),
-      λ q. absurd (refused-not-done r (decode (a .state .now) .slots) q),
     )
 
 enum-told : tie.Need-enum-told
@@ -55,12 +55,10 @@ returns-2 : tie.Need-returns-2
 returns-2 c =
     let m = c .before .before in
     let i = c .before .before .before .before .before in
-    let a = c .before .before .before .before .before .before .before .before .before .before .args in
-    let h = i .is-sound .ensures .1 (c .before .before .before .before .if1 .taken) in (
+    let a = c .before .before .before .before .before .before .before .before .before .before .args in (
       rest-sound (a .sizes .now) (a .state .now) (a .file) (a .range) _ _ (sym (i .is-sound .ensures .0) ∙ c .before .before .before .before .if1 .taken)
-          (h .3) (sym (first-all (tests c) (done 0) (answer-passed (tests c) _ _ refl (m .admit-mounted .ensures) (c .enum-told .given .1)))),
-      h .0 ∙ table-done 0 _,
-      λ q. h .1,
+          (sym (mark-read (a .state .now) (omega arith))) (sym (first-all (tests c) (done 0) (answer-passed (tests c) _ _ refl (m .admit-mounted .ensures) (c .enum-told .given .1)))),
+      i .is-sound .ensures .1 (c .before .before .before .before .if1 .taken) ∙ table-done 0 _,
     )
 
 none-cached-requires-3 : tie.Need-none-cached-requires-3
@@ -72,7 +70,6 @@ returns-3 c =
     let a = c .before .before .before .before .before .before .before .args in (
       rest-unsound (a .sizes .now) (a .state .now) (a .file) (a .range) (sym (i .is-sound .ensures .0) ∙ c .before .if1 .left),
       c .none-cached3 .ensures ∙ table-refused Books (decode (a .state .now) .slots),
-      λ q. absurd (refused-not-done Books (decode (a .state .now) .slots) q),
     )
 
 pub admit-state-spec : {M : Type 1} → statement M

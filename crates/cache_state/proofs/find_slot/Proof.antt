@@ -5,7 +5,7 @@ use Prim.Native.Nat.{_+_, _*_, _<_}
 use native.Mathlib.Omega.{arith}
 use lib.ListN.{getD}
 use Rattle.cache_state.specs.Tables.{Passed}
-use Rattle.cache_state.proofs.Pass.{find-used, find-twice, find-page, find-file, find-free, find-carried, find-carried-page, find-flag}
+use Rattle.cache_state.proofs.Pass.{find-used, find-twice, find-page, find-file, find-free, find-carried, find-carried-page, find-mark}
 use borrow.Author.Needs.{needs}
 use Rattle.cache_state.proofs.find_slot.Statement.{statement}
 use Rattle.cache_state.proofs.find_slot.Tie as tie
@@ -105,7 +105,7 @@ returns-8 : tie.Need-returns-8
 returns-8 c =
     let s = c .before .before .before .before .before .before in
     let a = s .args in
-    (λ q. absurd (false≢true q), λ q. find-flag (a .state .now) (a .slots .now) (a .k) (passed s) (omega arith) (c .before .if1 .left) (c .if5 .left))
+    (λ q. absurd (false≢true q), λ q. find-mark (a .state .now) (a .slots .now) (a .k) (passed s) (omega arith) (c .before .if1 .left) (c .if5 .left))
 
 pub find-slot-spec : {M : Type 1} → statement M
 find-slot-spec =

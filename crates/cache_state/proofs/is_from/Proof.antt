@@ -14,13 +14,13 @@ mul-result : tie.Need-mul-result
 mul-result c = search needs
 
 returns : tie.Need-returns
-returns c = rw (c .before .if1 .taken, eq-eqb _ _ (c .if2 .taken))
+returns c = rw (eq-eqb _ 1 (c .before .if1 .taken), eq-eqb _ _ (c .if2 .taken))
 
 returns-2 : tie.Need-returns-2
-returns-2 c = rw (c .before .if1 .taken, ne-eqb _ _ (c .if2 .left))
+returns-2 c = rw (eq-eqb _ 1 (c .before .if1 .taken), ne-eqb _ _ (c .if2 .left))
 
 returns-3 : tie.Need-returns-3
-returns-3 c = search needs
+returns-3 c = rw (ne-eqb _ 1 (c .if1 .left))
 
 pub is-from-spec : {M : Type 1} → statement M
 is-from-spec = tie.close (tie.spec cast-f cast-p mul-result returns returns-2 returns-3)

@@ -4,16 +4,16 @@ use Prim.Native.Nat.{ℕ}
 use borrow.Author.Needs.{needs}
 use Rattle.media.specs.Geometry.{pagesPerFile}
 use Rattle.media.specs.Write.{mediaOf}
-use Rattle.device.specs.Device.{Device, deviceOf}
 use Rattle.device.specs.Looking.{toPageEnd}
-use Rattle.device.proofs.Admission.{file-passed, file-refused}
-use Rattle.device.proofs.Looking.{count-refused, count-done}
-use Rattle.state_bytes.specs.Encoding.{decode}
+use Rattle.device.proofs.Looking.{count-done}
+use Rattle.state_bytes.specs.InPlace.{Lent, lent, deviceIn}
+use Rattle.state_bytes.proofs.OnBytes.{lent-passed, lent-refused, count-refused-on, count-on}
 use Rattle.reading.proofs.look_count.Statement.{statement}
 use Rattle.reading.proofs.look_count.Tie as tie
 
-abbrev device : tie.Start → Device
-device c = deviceOf (mediaOf (c .args .media .now) (c .args .sizes .now)) (c .args .frames .now) (decode (c .args .state .now))
+-- the device at the start, as it is lent
+abbrev came : tie.Start → Lent
+came c = lent (mediaOf (c .args .media .now) (c .args .sizes .now)) (c .args .frames .now) (c .args .state .now)
 
 admit-at-requires : tie.Need-admit-at-requires
 admit-at-requires c κs = search needs
@@ -38,7 +38,7 @@ returns c =
     let b = c .before .before .before in
     let s = b .before .before .before .before .before .before in
     let x = c .before .admission .given .0 .0 in
-    count-refused pagesPerFile (s .args .file) (s .args .position) (device s) x (file-refused pagesPerFile (device s) _ _ (b .admit-at .result) (b .admit-at .ensures .0) x (c .before .admission .given .1))
+    count-refused-on pagesPerFile (s .args .file) (s .args .position) (came s) x (lent-refused pagesPerFile (came s) _ _ (b .admit-at .result) (b .admit-at .ensures .0) x (c .before .admission .given .1))
 
 returns-2 : tie.Need-returns-2
 returns-2 c =
@@ -46,8 +46,10 @@ returns-2 c =
     let t = l .before in
     let b = t .before .before in
     let s = b .before .before .before .before .before .before in
-    count-done pagesPerFile (s .args .file) (s .args .position) (device s) _ (file-passed pagesPerFile (device s) _ _ (b .admit-at .result) (b .admit-at .ensures .0) _ (t .enum-told .given .1))
+    let ok = lent-passed pagesPerFile (came s) _ _ (b .admit-at .result) (b .admit-at .ensures .0) _ (t .enum-told .given .1) in
+    count-done pagesPerFile (s .args .file) (s .args .position) (deviceIn (came s)) _ (ok .1)
     (c .to-page-end .ensures ∙ ap (λ (n : ℕ). toPageEnd (s .args .position) n) (l .logical-at .ensures))
+    ∙ count-on pagesPerFile (s .args .file) (s .args .position) (came s) (ok .0)
 
 pub look-count-spec : {M : Type 1} → statement M
 look-count-spec =

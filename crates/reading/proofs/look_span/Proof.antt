@@ -4,35 +4,40 @@ use mathlib.Core.Bool.{true}
 use Prim.Native.Nat.{ℕ, _/_, _≤_}
 use native.Mathlib.Omega.{arith}
 use lib.Dec.{leb}
+use lib.ListN.{length}
 use borrow.Author.Tests.{leb-true}
 use borrow.Author.Needs.{needs}
 use Rattle.answer.proofs.Admission.{passed}
 use Rattle.media.specs.Geometry.{pageBytes, pagesPerFile, fileBytes, fileStart}
 use Rattle.media.specs.Write.{mediaOf}
-use Rattle.device.specs.Device.{Device, deviceOf, slotOf}
+use Rattle.device.specs.Device.{slotOf}
 use Rattle.device.specs.Admission.{fileTests}
 use Rattle.device.specs.Looking.{toPageEnd}
-use Rattle.device.proofs.Admission.{Admitted, file-passed, file-refused, file-ready}
-use Rattle.device.proofs.Looking.{span-refused, span-cached, span-media}
-use Rattle.state_bytes.specs.Encoding.{decode}
+use Rattle.device.proofs.Admission.{Admitted}
+use Rattle.device.proofs.Looking.{span-cached, span-media}
+use Rattle.state_bytes.specs.Encoding.{stateBytes, decode}
+use Rattle.state_bytes.specs.InPlace.{Lent, lent, deviceIn}
 use Rattle.state_bytes.proofs.InPlace.{shaped}
+use Rattle.state_bytes.proofs.OnBytes.{lent-passed, lent-ready, lent-refused, span-refused-on, span-on}
 use Rattle.cache_state.proofs.Soundness.{table-is}
 use Rattle.reading.proofs.Slots.{slot-sound}
 use Rattle.reading.proofs.look_span.Statement.{statement}
 use Rattle.reading.proofs.look_span.Tie as tie
 
-abbrev device : tie.Start → Device
-device c = deviceOf (mediaOf (c .args .media .now) (c .args .sizes .now)) (c .args .frames .now) (decode (c .args .state .now))
+-- the device at the start, as it is lent
+abbrev came : tie.Start → Lent
+came c = lent (mediaOf (c .args .media .now) (c .args .sizes .now)) (c .args .frames .now) (c .args .state .now)
 
 abbrev start : tie.After-enum-told2 → tie.Start
 start c = c .before .before .before .before .before .before .before .before
 
 -- what `admit_at` has tested
-ready : (c : tie.After-enum-told2) → Admitted pagesPerFile (device (start c)) (start c .args .file) (leb (start c .args .position) (fileBytes pagesPerFile))
-ready c = file-ready pagesPerFile (device (start c)) _ _ (c .before .before .admit-at .result) (c .before .before .admit-at .ensures .0) _ (c .enum-told2 .given .1)
+ready : (c : tie.After-enum-told2) → Admitted pagesPerFile (deviceIn (came (start c))) (start c .args .file) (leb (start c .args .position) (fileBytes pagesPerFile))
+ready c = lent-ready pagesPerFile (came (start c)) _ _ (c .before .before .admit-at .result) (c .before .before .admit-at .ensures .0) _ (c .enum-told2 .given .1)
 
-admitted : (c : tie.After-enum-told2) → passed (fileTests pagesPerFile (device (start c)) (start c .args .file) (leb (start c .args .position) (fileBytes pagesPerFile))) ≡ true
-admitted c = file-passed pagesPerFile (device (start c)) _ _ (c .before .before .admit-at .result) (c .before .before .admit-at .ensures .0) _ (c .enum-told2 .given .1)
+admitted : (c : tie.After-enum-told2) → (length (start c .args .state .now) ≡ stateBytes)
+    × (passed (fileTests pagesPerFile (deviceIn (came (start c))) (start c .args .file) (leb (start c .args .position) (fileBytes pagesPerFile))) ≡ true)
+admitted c = lent-passed pagesPerFile (came (start c)) _ _ (c .before .before .admit-at .result) (c .before .before .admit-at .ensures .0) _ (c .enum-told2 .given .1)
 
 in-limits : (c : tie.After-enum-told2) → start c .args .position ≤ fileBytes pagesPerFile
 in-limits c = leb-true _ _ (ready c .in-range)
@@ -41,7 +46,7 @@ abbrev told : tie.After-slot-of → tie.After-enum-told2
 told c = c .before .before .before .before
 
 -- the slot of the page
-slot-is : (c : tie.After-slot-of) → c .slot-of .result ≡ slotOf (device (start (told c))) (start (told c) .args .file) (start (told c) .args .position / pageBytes)
+slot-is : (c : tie.After-slot-of) → c .slot-of .result ≡ slotOf (deviceIn (came (start (told c)))) (start (told c) .args .file) (start (told c) .args .position / pageBytes)
 slot-is c =
     let t = told c in
     let bytes = start t .args .state .now in
@@ -86,8 +91,9 @@ returns c =
     let m = c .before .before in
     let l = m .before .before .before in
     let s = start (told m) in
-    span-cached pagesPerFile (s .args .file) (s .args .position) (device s) (admitted (told m)) _ (slot-is m) _ (omega arith)
+    span-cached pagesPerFile (s .args .file) (s .args .position) (deviceIn (came s)) (admitted (told m) .1) _ (slot-is m) _ (omega arith)
     (c .to-page-end .ensures ∙ ap (λ (n : ℕ). toPageEnd (s .args .position) n) (l .logical-at .ensures))
+    ∙ span-on pagesPerFile (s .args .file) (s .args .position) (came s) (admitted (told m) .0)
 
 mul-t16 : tie.Need-mul-t16
 mul-t16 c = search needs
@@ -106,8 +112,8 @@ returns-2 c =
     let b = c .before .before in
     let s = b .before .before .before .before .before .before in
     let x = c .enum-told .given .0 .0 in
-    span-refused pagesPerFile (s .args .file) (s .args .position) (device s) x
-    (file-refused pagesPerFile (device s) _ _ (b .admit-at .result) (b .admit-at .ensures .0) x (c .enum-told .given .1))
+    span-refused-on pagesPerFile (s .args .file) (s .args .position) (came s) x
+    (lent-refused pagesPerFile (came s) _ _ (b .admit-at .result) (b .admit-at .ensures .0) x (c .enum-told .given .1))
 
 returns-3 : tie.Need-returns-3
 unfolding fileStart
@@ -115,8 +121,9 @@ returns-3 c =
     let m = c .before .before in
     let l = m .before .before in
     let s = start (told m) in
-    span-media pagesPerFile (s .args .file) (s .args .position) (device s) (admitted (told m)) _ (slot-is m) _ (omega arith)
+    span-media pagesPerFile (s .args .file) (s .args .position) (deviceIn (came s)) (admitted (told m) .1) _ (slot-is m) _ (omega arith)
     (c .to-page-end2 .ensures ∙ ap (λ (n : ℕ). toPageEnd (s .args .position) n) (l .floor-at .ensures))
+    ∙ span-on pagesPerFile (s .args .file) (s .args .position) (came s) (admitted (told m) .0)
 
 pub look-span-spec : {M : Type 1} → statement M
 look-span-spec =

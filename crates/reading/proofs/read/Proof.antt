@@ -1,5 +1,5 @@
 -- `reading::read` meets its contract: refused as `admit_at` says, or the current bytes.
-use mathlib.Core.Path.{_≡_}
+use mathlib.Core.Path.{_≡_, _∙_}
 use Prim.Native.Nat.{_≤_}
 use native.Mathlib.Omega.{arith}
 use lib.Dec.{leb}
@@ -7,27 +7,27 @@ use borrow.Author.Tests.{leb-true}
 use borrow.Author.Needs.{needs}
 use Rattle.media.specs.Geometry.{pagesPerFile, fileBytes}
 use Rattle.media.specs.Write.{mediaOf}
-use Rattle.device.specs.Device.{Device, deviceOf}
-use Rattle.device.proofs.Admission.{Admitted, file-passed, file-refused, file-ready}
+use Rattle.device.proofs.Admission.{Admitted}
 use Rattle.device.proofs.Sound.{sound-sizes}
-use Rattle.device.proofs.Reading.{read-refused, read-done}
+use Rattle.device.proofs.Reading.{read-done}
 use Rattle.state_bytes.specs.Encoding.{decode}
+use Rattle.state_bytes.specs.InPlace.{Lent, lent, deviceIn}
+use Rattle.state_bytes.proofs.OnBytes.{lent-passed, lent-ready, lent-refused, read-refused-on, read-on}
 use Rattle.cache_state.specs.Tables.{slotTable}
 use Rattle.cache_state.proofs.Soundness.{table-is}
 use Rattle.reading.proofs.read.Statement.{statement}
 use Rattle.reading.proofs.read.Tie as tie
 
--- the device at the start
-device : tie.Start → Device
-device c = deviceOf (mediaOf (c .args .media .now) (c .args .sizes .now)) (c .args .frames .now) (decode (c .args .state .now))
+-- the device at the start, as it is lent
+abbrev came : tie.Start → Lent
+came c = lent (mediaOf (c .args .media .now) (c .args .sizes .now)) (c .args .frames .now) (c .args .state .now)
 
 abbrev start : tie.After-enum-told → tie.Start
 start c = c .before .before .before .before .before .before .before .before .before
 
 -- what `admit_at` has tested
-ready : (c : tie.After-enum-told) → Admitted pagesPerFile (device (start c)) (start c .args .file) (leb (start c .args .position) (fileBytes pagesPerFile))
-unfolding device
-ready c = file-ready pagesPerFile (device (start c)) _ _ (c .before .before .admit-at .result) (c .before .before .admit-at .ensures .0) _ (c .enum-told .given .1)
+ready : (c : tie.After-enum-told) → Admitted pagesPerFile (deviceIn (came (start c))) (start c .args .file) (leb (start c .args .position) (fileBytes pagesPerFile))
+ready c = lent-ready pagesPerFile (came (start c)) _ _ (c .before .before .admit-at .result) (c .before .before .admit-at .ensures .0) _ (c .enum-told .given .1)
 
 -- the table of slots that it left
 table : (c : tie.After-enum-told) → c .before .before .admit-at .last .1 .1 .1 .1 .1 .1 .0 ≡ slotTable pagesPerFile (decode (start c .args .state .now) .slots)
@@ -61,7 +61,6 @@ min-requires : tie.Need-min-requires
 min-requires c κs = search needs
 
 read-pages-requires : tie.Need-read-pages-requires
-unfolding device
 read-pages-requires c κs =
     let t = c .before .before .before .before .before .before in
     let ok = ready t in
@@ -70,18 +69,17 @@ read-pages-requires c κs =
     (ok .bytes, ok .frames, ok .file, omega arith, omega arith)
 
 returns : tie.Need-returns
-unfolding device
 returns c =
     let b = c .before .before .before in
     let s = b .before .before .before .before .before .before .before in
     let x = c .before .admission .given .0 .0 in
-    read-refused pagesPerFile (s .args .file) (s .args .position) (s .args .buffer .now) (device s) x (file-refused pagesPerFile (device s) _ _ (b .admit-at .result) (b .admit-at .ensures .0) x (c .before .admission .given .1))
+    read-refused-on pagesPerFile (s .args .file) (s .args .position) (came s) x
+    (lent-refused pagesPerFile (came s) _ _ (b .admit-at .result) (b .admit-at .ensures .0) x (c .before .admission .given .1)) (s .args .buffer .now)
 
 same-length : tie.Need-same-length
 same-length c = search needs
 
 returns-2 : tie.Need-returns-2
-unfolding device
 returns-2 c =
     let p = c .before .before in
     let n = p .before .before .before in
@@ -89,9 +87,10 @@ returns-2 c =
     let t = f .before .before in
     let s = start t in
     let b = t .before .before in
-    read-done pagesPerFile (s .args .file) (s .args .position) (s .args .buffer .now) (device s) (n .min .result) _
-    (file-passed pagesPerFile (device s) _ _ (b .admit-at .result) (b .admit-at .ensures .0) _ (t .enum-told .given .1))
+    let ok = lent-passed pagesPerFile (came s) _ _ (b .admit-at .result) (b .admit-at .ensures .0) _ (t .enum-told .given .1) in
+    read-done pagesPerFile (s .args .file) (s .args .position) (s .args .buffer .now) (deviceIn (came s)) (n .min .result) _ (ok .1)
     (omega arith) (p .read-pages .ensures (s .args .sizes .now) (decode (s .args .state .now)) (table t) (f .floor-at .ensures))
+    ∙ read-on pagesPerFile (s .args .file) (s .args .position) (came s) (ok .0) (s .args .buffer .now)
 
 pub read-spec : {M : Type 1} → statement M
 read-spec =

@@ -26,10 +26,11 @@ read-requires c κs = search needs
 
 returns : tie.Need-returns
 returns c =
-    let a = c .before .before .before .before .before .before .before .args in
-    let z = c .before .before .before .read-buffer .ensures in (
-      ap (give _) (take-front (a .length) _ _ (c .before .read .kept .1 .1 .1 .1 .1 .1 .0 ∙ rw z (length-front (a .length) readBuffer (omega (arith, length-buffer))))) ∙ rw (z, take-buffer (a .length) (omega arith)) at (c .before .read .ensures),
-      refl,
+    let a = c .before .before .before .before .before .before .before .before .args in
+    let z = c .before .before .before .before .read-buffer .ensures in
+    let r = c .before .before .read in (
+      ap (give _) (take-front (a .length) _ _ (r .kept .1 .1 .1 .1 .1 .1 .0 ∙ rw z (length-front (a .length) readBuffer (omega (arith, length-buffer))))) ∙ rw (z, take-buffer (a .length) (omega arith)) at (r .ensures .0),
+      r .ensures .1,
       refl,
     )
 

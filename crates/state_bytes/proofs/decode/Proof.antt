@@ -1,5 +1,4 @@
 -- `state_bytes::decode` meets its contract.
-use mathlib.Core.Path.{_≡_, refl, sym, _∙_}
 use native.Mathlib.Omega.{arith}
 use lib.ListN.{length}
 use borrow.Author.Tests.{eq-eqb, ne-eqb}
@@ -8,8 +7,8 @@ use Rattle.state_bytes.specs.Encoding.{stateBytes, decode}
 use Rattle.state_bytes.proofs.decode.Statement.{statement}
 use Rattle.state_bytes.proofs.decode.Tie as tie
 
-mark-in-requires : tie.Need-mark-in-requires
-mark-in-requires c κs = search needs
+shared-slice-read-mounted : tie.Need-shared-slice-read-mounted
+shared-slice-read-mounted c = search needs
 
 slots-in-requires : tie.Need-slots-in-requires
 slots-in-requires c κs = search needs
@@ -24,25 +23,25 @@ returns : tie.Need-returns
 unfolding decode
 returns c =
     let a = c .before .before .before .before .before .before .args in
-    rw (eq-eqb (length (a .state .now)) stateBytes (omega arith), c .before .before .before .mark-in .ensures, c .before .before .slots-in .ensures, c .before .sizes-in .ensures, c .sizes-in2 .ensures)
+    rw (eq-eqb (length (a .state .now)) stateBytes (omega arith), c .before .before .slots-in .ensures, c .before .sizes-in .ensures, c .sizes-in2 .ensures)
 
-no-slots-requires : tie.Need-no-slots-requires
-no-slots-requires c κs = search needs
+down-state-requires : tie.Need-down-state-requires
+down-state-requires c κs = search needs
 
 returns-2 : tie.Need-returns-2
 unfolding decode
 returns-2 c =
     let a = c .before .before .before .args in
-    rw (ne-eqb (length (a .state .now)) stateBytes (λ e. omega arith), c .no-slots .ensures)
+    rw (ne-eqb (length (a .state .now)) stateBytes (λ e. omega arith), c .down-state .ensures)
 
 pub decode-spec : {M : Type 1} → statement M
 decode-spec =
     tie.close
     (tie.spec
-    mark-in-requires
+    shared-slice-read-mounted
     slots-in-requires
     sizes-in-requires
     sizes-in-requires-2
     returns
-    no-slots-requires
+    down-state-requires
     returns-2)

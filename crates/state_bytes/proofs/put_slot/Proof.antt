@@ -1,14 +1,10 @@
 -- `state_bytes::put_slot` meets its contract: three bytes, one after the other.
-use mathlib.Core.Bool.{cond}
 use native.Mathlib.Omega.{arith}
 use lib.ListN.{length-set}
 use borrow.Author.Needs.{needs}
 use Rattle.state_bytes.proofs.Encoding.{laid-three}
 use Rattle.state_bytes.proofs.put_slot.Statement.{statement}
 use Rattle.state_bytes.proofs.put_slot.Tie as tie
-
-flag-requires : tie.Need-flag-requires
-flag-requires c κs = search needs
 
 slice-write-state : tie.Need-slice-write-state
 slice-write-state c = search needs
@@ -29,15 +25,12 @@ same-length : tie.Need-same-length
 same-length c = search needs
 
 returns : tie.Need-returns
-returns c =
-    let a = c .before .before .args in
-    rw (c .flag .ensures) (laid-three (a .state .now) (a .at) (cond (a .s .used) 1 0) (a .s .file) (a .s .page))
+returns c = let a = c .args in laid-three (a .state .now) (a .at) (a .s .used) (a .s .file) (a .s .page)
 
 pub put-slot-spec : {M : Type 1} → statement M
 put-slot-spec =
     tie.close
     (tie.spec
-    flag-requires
     slice-write-state
     add-state
     slice-write-state-2

@@ -3,21 +3,21 @@ use mathlib.Core.Path.{_≡_, refl, ap, _∙_}
 use mathlib.Core.Bool.{true}
 use mathlib.Core.List.{List, []}
 use Prim.Native.Nat.{ℕ}
-use native.Mathlib.Omega.{arith}
+use lib.ListN.{length}
 use borrow.Author.Needs.{needs}
 use Rattle.answer.specs.declared.Answer.the-variants.{Refused}
 use Rattle.answer.proofs.Coded.{coded-of}
 use Rattle.answer.proofs.Admission.{passed}
 use Rattle.media.specs.Geometry.{pagesPerFile}
 use Rattle.media.specs.Write.{Media, mediaOf}
-use Rattle.device.specs.Device.{Device}
-use Rattle.device.specs.Admission.{Result, mediaShape}
+use Rattle.device.specs.Admission.{mediaShape}
 use Rattle.device.specs.Mounting.{formatPlan, format}
-use Rattle.device.proofs.Admission.{shape-changeless, shape-admitted, shape-passed}
+use Rattle.device.proofs.Admission.{admit-refused, shape-refusing, shape-admitted}
 use Rattle.device.proofs.Plan.{plan-ends}
-use Rattle.state_bytes.specs.InPlace.{Lent, lent, deviceIn, onState}
-use Rattle.state_bytes.proofs.OnState.{shape-on, length-on}
-use Rattle.writeback.proofs.Ends.{refused-call}
+use Rattle.state_bytes.specs.Encoding.{stateBytes}
+use Rattle.state_bytes.specs.InPlace.{Lent, lent, deviceIn, inBytes}
+use Rattle.state_bytes.proofs.Inverse.{are-bytes}
+use Rattle.state_bytes.proofs.OnBytes.{shape-passed, refused-on, length-on}
 use Rattle.writeback.proofs.format.Statement.{statement}
 use Rattle.writeback.proofs.format.Tie as tie
 
@@ -31,13 +31,8 @@ abbrev start : tie.After-enum-told → tie.Start
 start c = c .before .before .before .before .before .before .before .before
 
 -- what `admit_format` has tested
-all : (c : tie.After-enum-told) → passed (mediaShape pagesPerFile (media-of (start c))) ≡ true
-all c = shape-passed pagesPerFile (media-of (start c)) (c .before .before .admit-format .result) (c .before .before .admit-format .ensures _ refl) _ (c .enum-told .given .1)
-
-returns : tie.Need-returns
-returns c =
-    let s = c .before .before .before .before in
-    λ frames. shape-on (format pagesPerFile (s .args .budget)) (came s frames) (λ e. omega arith)
+all : (c : tie.After-enum-told) → (length (start c .args .state .now) ≡ stateBytes) × (passed (mediaShape pagesPerFile (media-of (start c))) ≡ true)
+all c = shape-passed (start c .args .state .now) (mediaShape pagesPerFile (media-of (start c))) (c .before .before .admit-format .result) _ (shape-refusing pagesPerFile (deviceIn (came (start c) []))) (c .before .before .admit-format .ensures _ refl) (c .enum-told .given .1)
 
 admit-format-requires : tie.Need-admit-format-requires
 admit-format-requires c κs = search needs
@@ -49,29 +44,29 @@ enum-told : tie.Need-enum-told
 enum-told c = search needs
 
 format-files-requires : tie.Need-format-files-requires
-format-files-requires c κs = let t = c .before .before in shape-admitted pagesPerFile (deviceIn (came (start t) [])) (all t)
+format-files-requires c κs = let t = c .before .before in shape-admitted pagesPerFile (deviceIn (came (start t) [])) (all t .1)
 
 down-state-requires : tie.Need-down-state-requires
 down-state-requires c κs = search needs
 
 finish-requires : tie.Need-finish-requires
-finish-requires c κs = search needs
+finish-requires c κs = all (c .before .before .before .before .before .before .before .before .before) .0
 
 same-length : tie.Need-same-length
 same-length c = search needs
 
-returns-2 : tie.Need-returns-2
+same-length-2 : tie.Need-same-length-2
+same-length-2 c = search needs
+
+returns : tie.Need-returns
 unfolding format
-returns-2 c =
+returns c =
     let b = c .before .before .before in
     let s = b .before .before .before .before .before .before in
     let x = c .before .admission .given .0 .0 in
-    λ frames. refused-call (format pagesPerFile (s .args .budget)) (came s frames) (mediaShape pagesPerFile (media-of s)) _ refl (shape-changeless pagesPerFile (deviceIn (came s frames))) x
-    (coded-of (b .admit-format .result) (Refused x) _ (c .before .admission .given .1) (b .admit-format .ensures _ refl))
-    ∙ length-on (format pagesPerFile (s .args .budget)) (came s frames) (omega arith)
-
-same-length-2 : tie.Need-same-length-2
-same-length-2 c = search needs
+    λ frames. refused-on (format pagesPerFile (s .args .budget)) (came s frames) (mediaShape pagesPerFile (media-of s)) x
+    (coded-of (b .admit-format .result) (Refused x) _ (c .before .admission .given .1) (b .admit-format .ensures _ refl)) (are-bytes _ (c .before .before .before .before .before .before .slice-known3 .given))
+    (admit-refused (mediaShape pagesPerFile (media-of s)) (deviceIn (came s frames)) _ x)
 
 same-length-3 : tie.Need-same-length-3
 same-length-3 c = search needs
@@ -79,9 +74,12 @@ same-length-3 c = search needs
 same-length-4 : tie.Need-same-length-4
 same-length-4 c = search needs
 
-returns-3 : tie.Need-returns-3
+same-length-5 : tie.Need-same-length-5
+same-length-5 c = search needs
+
+returns-2 : tie.Need-returns-2
 unfolding format
-returns-3 c =
+returns-2 c =
     let w = c .before .before .before .before .before .before .before .before .before in
     let t = w .before .before .before in
     let s = start t in
@@ -89,15 +87,14 @@ returns-3 c =
     let l = came s frames in
     c .before .before .finish .ensures _ frames
     ∙ rw (c .before .before .before .down-state .ensures)
-    (ap (λ (q : Result Device). onState (λ d. q) l)
-    (plan-ends pagesPerFile (s .args .budget) (formatPlan pagesPerFile (media-of s)) _ (deviceIn l) (w .format-files .result) _ (w .format-files .ensures) (mediaShape pagesPerFile (media-of s)) (all t))
-    ∙ length-on (format pagesPerFile (s .args .budget)) l (omega arith))
+    (ap inBytes
+    (plan-ends pagesPerFile (s .args .budget) (formatPlan pagesPerFile (media-of s)) _ (deviceIn l) (w .format-files .result) _ (w .format-files .ensures) (mediaShape pagesPerFile (media-of s)) (all t .1)))
+    ∙ length-on (format pagesPerFile (s .args .budget)) l (all t .0)
 
 pub format-spec : {M : Type 1} → statement M
 format-spec =
     tie.close
     (tie.spec
-    returns
     admit-format-requires
     enum-known-admission
     enum-told
@@ -105,8 +102,9 @@ format-spec =
     down-state-requires
     finish-requires
     same-length
-    returns-2
     same-length-2
+    returns
     same-length-3
     same-length-4
-    returns-3)
+    same-length-5
+    returns-2)

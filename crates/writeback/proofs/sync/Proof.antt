@@ -2,16 +2,18 @@
 use mathlib.Core.Path.{_≡_, refl, sym, _∙_}
 use mathlib.Core.Bool.{true}
 use native.Mathlib.Omega.{arith}
+use lib.ListN.{length}
 use borrow.Author.Needs.{needs}
 use Rattle.answer.proofs.Admission.{passed}
 use Rattle.media.specs.Geometry.{pagesPerFile}
 use Rattle.media.specs.Write.{mediaOf}
 use Rattle.device.specs.Admission.{fileTests}
 use Rattle.device.proofs.Sound.{sound-sizes}
-use Rattle.device.proofs.Admission.{Admitted, file-passed, file-refused, file-admitted}
-use Rattle.state_bytes.specs.Encoding.{decode}
-use Rattle.state_bytes.specs.InPlace.{Lent, lent, deviceIn, IsEncoded}
-use Rattle.state_bytes.proofs.InPlace.{sound-length}
+use Rattle.device.proofs.Admission.{Admitted}
+use Rattle.state_bytes.specs.Encoding.{stateBytes, decode}
+use Rattle.state_bytes.specs.InPlace.{Lent, lent, deviceIn}
+use Rattle.state_bytes.proofs.Inverse.{are-bytes}
+use Rattle.state_bytes.proofs.OnBytes.{lent-passed, lent-ready, lent-refused}
 use Rattle.cache_state.proofs.Soundness.{table-done}
 use Rattle.writeback.proofs.Ends.{refused-ends, cut-ends, done-ends}
 use Rattle.writeback.proofs.sync.Statement.{statement}
@@ -24,14 +26,11 @@ abbrev start : tie.After-enum-told → tie.Start
 start c = c .before .before .before .before .before .before .before .before .before .before
 
 -- what `admit` has tested
-all : (c : tie.After-enum-told) → passed (fileTests pagesPerFile (deviceIn (device (start c))) (start c .args .file) true) ≡ true
-all c = file-passed pagesPerFile (deviceIn (device (start c))) _ true (c .before .before .admit .result) (c .before .before .admit .ensures .0 _ _ refl refl) _ (c .enum-told .given .1)
+all : (c : tie.After-enum-told) → (length (start c .args .state .now) ≡ stateBytes) × (passed (fileTests pagesPerFile (deviceIn (device (start c))) (start c .args .file) true) ≡ true)
+all c = lent-passed pagesPerFile (device (start c)) _ true (c .before .before .admit .result) (c .before .before .admit .ensures .0 _ _ refl refl) _ (c .enum-told .given .1)
 
 ready : (c : tie.After-enum-told) → Admitted pagesPerFile (deviceIn (device (start c))) (start c .args .file) true
-ready c = file-admitted pagesPerFile (deviceIn (device (start c))) _ true (all c)
-
-encoded-is : (c : tie.After-enum-told) → IsEncoded (start c .args .state .now)
-encoded-is c = c .before .before .admit .ensures .2 (rw (c .enum-told .given .1))
+ready c = lent-ready pagesPerFile (device (start c)) _ true (c .before .before .admit .result) (c .before .before .admit .ensures .0 _ _ refl refl) _ (c .enum-told .given .1)
 
 admit-requires : tie.Need-admit-requires
 admit-requires c κs = search needs
@@ -60,7 +59,7 @@ sync-writes-requires c κs =
     )
 
 cut-requires : tie.Need-cut-requires
-cut-requires c κs = search needs
+cut-requires c κs = all (c .before .before .before .before .before .before .before .before .before .before .before) .0
 
 same-length : tie.Need-same-length
 same-length c = search needs
@@ -77,12 +76,11 @@ returns c =
     let w = c .before .before .before .before .before .before .before .before .before in
     let t = w .before .before .before .before .before in
     let s = start t in
-    rw (k .cut .ensures .0)
-    (cut-ends pagesPerFile (s .args .file) (s .args .budget) (device s) (w .sync-writes .result) _ (w .sync-writes .ensures) (all t) _ (omega arith)
-    (sound-length pagesPerFile (s .args .sizes .now) (s .args .state .now) (ready t .sound)) (k .cut .ensures .1))
+    rw (k .cut .ensures .0, k .cut .ensures .1)
+    (cut-ends pagesPerFile (s .args .file) (s .args .budget) (device s) (w .sync-writes .result) _ (w .sync-writes .ensures) (all t .0) (all t .1) (omega arith))
 
 sync-state-requires : tie.Need-sync-state-requires
-sync-state-requires c κs = encoded-is (c .before .before .before .before .before .before .before .before .before .before .before)
+sync-state-requires c κs = all (c .before .before .before .before .before .before .before .before .before .before .before) .0
 
 same-length-4 : tie.Need-same-length-4
 same-length-4 c = search needs
@@ -96,7 +94,7 @@ returns-2 c =
     let s = b .before .before .before .before .before .before .before .before in
     let x = c .before .admission .given .0 .0 in
     refused-ends pagesPerFile (s .args .file) (s .args .budget) (device s) x
-    (file-refused pagesPerFile (deviceIn (device s)) (s .args .file) true (b .admit .result) (b .admit .ensures .0 _ _ refl refl) x (c .before .admission .given .1))
+    (lent-refused pagesPerFile (device s) (s .args .file) true (b .admit .result) (b .admit .ensures .0 _ _ refl refl) x (c .before .admission .given .1)) (are-bytes _ (c .before .before .before .before .before .before .before .slice-known3 .given))
 
 same-length-6 : tie.Need-same-length-6
 same-length-6 c = search needs
@@ -113,7 +111,8 @@ returns-3 c =
     let w = c .before .before .before .before .before .before .before .before .before in
     let t = w .before .before .before .before .before in
     let s = start t in
-    done-ends pagesPerFile (s .args .file) (s .args .budget) (device s) (w .sync-writes .result) _ (w .sync-writes .ensures) (all t) _ (omega arith) (y .sync-state .ensures)
+    done-ends pagesPerFile (s .args .file) (s .args .budget) (device s) (w .sync-writes .result) _ (w .sync-writes .ensures) (all t .0) (all t .1) (omega arith) _
+    (omega (arith, all t .0, y .sync-state .kept .0)) (are-bytes _ (c .slice-known7 .given)) (y .sync-state .ensures)
 
 pub sync-spec : {M : Type 1} → statement M
 sync-spec =

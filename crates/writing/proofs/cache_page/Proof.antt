@@ -1,7 +1,7 @@
 -- `writing::cache_page` meets its contract: the slot k was the first free one.
-use mathlib.Core.Path.{_≡_, _∙_}
 use Rattle.device.specs.Writing.{cachePage}
 use Rattle.state_bytes.specs.Encoding.{decode}
+use Rattle.state_bytes.proofs.Inverse.{are-bytes}
 use Rattle.state_bytes.proofs.InPlace.{slot-changed}
 use borrow.Author.Needs.{needs}
 use Rattle.writing.proofs.cache_page.Statement.{statement}
@@ -13,14 +13,20 @@ floor-at-requires c κs = search needs
 cast-floor : tie.Need-cast-floor
 cast-floor c = search needs
 
-fill-frame-requires : tie.Need-fill-frame-requires
-fill-frame-requires c κs = search needs
+filled-page-requires : tie.Need-filled-page-requires
+filled-page-requires c κs = search needs
 
-cast-t16 : tie.Need-cast-t16
-cast-t16 c = search needs
+slice-aggregate-put-frame : tie.Need-slice-aggregate-put-frame
+slice-aggregate-put-frame c = search needs
 
-cast-t17 : tie.Need-cast-t17
-cast-t17 c = search needs
+put-frame-requires : tie.Need-put-frame-requires
+put-frame-requires c κs = search needs
+
+cast-t20 : tie.Need-cast-t20
+cast-t20 c = search needs
+
+cast-t21 : tie.Need-cast-t21
+cast-t21 c = search needs
 
 set-slot-requires : tie.Need-set-slot-requires
 set-slot-requires c κs = search needs
@@ -34,9 +40,10 @@ same-length-2 c = search needs
 returns : tie.Need-returns
 unfolding cachePage
 returns c =
-    let s = c .before .before .before .before .before .before .before .before .before .before .before .before .before in
-    let x = slot-changed (s .args .state .now) (s .pre .7) _ _ _ (c .before .before .set-slot .ensures) in
-    (λ stored. rw (x .0, c .before .before .before .before .before .before .fill-frame .ensures stored (decode (s .args .state .now)) (c .before .before .before .before .before .before .before .before .floor-at .ensures), ← (s .pre .6)), x .1)
+    let s = c .before .before .before .before .before .before .before .before .before .before .before .before .before .before .before in
+    let x = slot-changed (s .args .state .now) (s .pre .7) (are-bytes _ (c .before .before .before .before .before .before .before .before .before .before .before .before .slice-known2 .given)) _ _ _ (c .before .before .set-slot .ensures) in
+    let filled = c .before .before .before .before .before .before .before .before .before .filled-page .ensures in
+    λ stored. rw (x, c .before .before .before .before .before .before .put-frame .ensures, filled stored (s .args .frames .now) (decode (s .args .state .now)) (c .before .before .before .before .before .before .before .before .before .before .floor-at .ensures), ← (s .pre .6))
 
 pub cache-page-spec : {M : Type 1} → statement M
 cache-page-spec =
@@ -44,9 +51,11 @@ cache-page-spec =
     (tie.spec
     floor-at-requires
     cast-floor
-    fill-frame-requires
-    cast-t16
-    cast-t17
+    filled-page-requires
+    slice-aggregate-put-frame
+    put-frame-requires
+    cast-t20
+    cast-t21
     set-slot-requires
     same-length
     same-length-2

@@ -1,6 +1,7 @@
 -- `writing::grow` meets its contract: the larger of the two sizes.
-use mathlib.Core.Path.{_≡_, _∙_}
+use mathlib.Core.Path.{_∙_}
 use native.Mathlib.Omega.{arith}
+use Rattle.state_bytes.proofs.Inverse.{are-bytes}
 use Rattle.state_bytes.proofs.InPlace.{logical-changed}
 use borrow.Author.Needs.{needs}
 use Rattle.writing.proofs.grow.Statement.{statement}
@@ -28,8 +29,8 @@ returns : tie.Need-returns
 returns c =
     let l = c .before .before in
     let s = c .before .before .before .before .before .before .before .before in
-    let x = logical-changed (s .args .state .now) (s .pre .2) _ _ _ (l .set-logical .ensures) in
-    (x .0 ∙ rw (c .before .before .before .max .ensures, c .before .before .before .before .before .logical-at .ensures), x .1)
+    logical-changed (s .args .state .now) (s .pre .2) (are-bytes _ (c .before .before .before .before .before .before .before .slice-known .given)) _ _ _ (l .set-logical .ensures)
+    ∙ rw (c .before .before .before .max .ensures, c .before .before .before .before .before .logical-at .ensures)
 
 pub grow-spec : {M : Type 1} → statement M
 grow-spec =

@@ -1,5 +1,5 @@
 -- `writing::put_page` meets its contract: the page is cached, or becomes cached in the first free slot, or there is none.
-use mathlib.Core.Path.{_≡_, refl}
+use mathlib.Core.Path.{refl}
 use Prim.Native.Nat.{_≤_}
 use native.Mathlib.Omega.{arith}
 use Rattle.media.specs.Write.{mediaOf}
@@ -33,7 +33,6 @@ returns c =
       λ stored.
           rw (c .before .before .patch-frames .ensures)
           (put-cached-in (a .pages) (a .file) (a .page) (deviceOf (mediaOf (a .media .now) stored) (a .frames .now) (decode (a .state .now))) _ (a .offset) (a .bytes .now) (s .pre .6) (omega arith)),
-      s .pre .7,
     )
 
 first-free-requires : tie.Need-first-free-requires
@@ -69,8 +68,7 @@ returns-2 c =
           rw (c .before .before .patch-frames2 .ensures)
           (put-new-in (a .pages) (a .file) (a .page) (deviceOf (mediaOf (a .media .now) stored) (a .frames .now) (decode (a .state .now))) (mediaOf (a .media .now) stored)
           _ _ (f .first-free .result) (a .offset) (a .bytes .now)
-          (k .cache-page .ensures .0 stored) (f .first-free .ensures) (shaped (a .state .now) .slots) none (omega (arith, f .first-free .ensures))),
-      k .cache-page .ensures .1,
+          (k .cache-page .ensures stored) (f .first-free .ensures) (shaped (a .state .now) .slots) none (omega (arith, f .first-free .ensures))),
     )
 
 same-length-4 : tie.Need-same-length-4
@@ -80,7 +78,7 @@ returns-3 : tie.Need-returns-3
 returns-3 c =
     let s = c .before .before .before .before .before .before .before .before in
     let a = s .args in
-    (slot-none (decode (a .state .now)) (a .file) (a .page) _ (s .pre .6) (omega arith) _ (c .before .first-free .ensures) (omega arith), λ stored. refl, s .pre .7)
+    (slot-none (decode (a .state .now)) (a .file) (a .page) _ (s .pre .6) (omega arith) _ (c .before .first-free .ensures) (omega arith), λ stored. refl)
 
 pub put-page-spec : {M : Type 1} → statement M
 put-page-spec =

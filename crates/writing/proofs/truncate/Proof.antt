@@ -1,25 +1,26 @@
 -- `writing::truncate` meets its contract: refused as `admit` says, or the state and the tail.
 use mathlib.Core.Path.{_≡_, refl, sym, _∙_, ap}
-use mathlib.Core.Bool.{Bool}
+use mathlib.Core.Bool.{Bool, true}
 use Prim.Native.Nat.{_≤_, _/_}
 use native.Mathlib.Omega.{arith}
 use lib.Dec.{leb}
+use lib.ListN.{length}
 use borrow.Author.Tests.{leb-true}
-use Rattle.answer.specs.declared.Answer.{Answer}
-use Rattle.answer.specs.Coded.{coded}
+use Rattle.answer.proofs.Admission.{passed}
 use Rattle.media.specs.Geometry.{pageBytes, pagesPerFile, fileBytes}
 use Rattle.media.specs.Write.{mediaOf}
 use Rattle.scan.specs.Scan.{firstIndex}
 use Rattle.device.specs.declared.CacheState.{CacheState}
 use Rattle.device.specs.Device.{Device, holds}
-use Rattle.device.specs.Admission.{Result}
+use Rattle.device.specs.Admission.{Result, fileTests}
 use Rattle.device.specs.Truncating.{withSizes, truncate}
-use Rattle.device.proofs.Admission.{Admitted, file-passed, file-refused, file-ready}
+use Rattle.device.proofs.Admission.{Admitted}
 use Rattle.device.proofs.Truncating.{truncate-refused, truncate-done}
-use Rattle.state_bytes.specs.Encoding.{decode}
-use Rattle.state_bytes.specs.InPlace.{Lent, lent, deviceIn, IsEncoded}
+use Rattle.state_bytes.specs.Encoding.{stateBytes, decode}
+use Rattle.state_bytes.specs.InPlace.{Lent, lent, deviceIn}
+use Rattle.state_bytes.proofs.Inverse.{are-bytes}
 use Rattle.state_bytes.proofs.InPlace.{shaped}
-use Rattle.state_bytes.proofs.OnState.{kept-on, encoded-on, refused-leaves, truncate-kept}
+use Rattle.state_bytes.proofs.OnBytes.{lent-passed, lent-ready, lent-refused, refused-on, bytes-on}
 use Rattle.cache_state.specs.Tables.{slotTable}
 use Rattle.cache_state.proofs.Soundness.{table-is}
 use borrow.Author.Needs.{needs}
@@ -41,14 +42,14 @@ call c = truncate pagesPerFile (c .args .file) (c .args .n)
 
 -- what `admit` has tested
 ready : (c : tie.After-enum-told) → let s = c .before .before .before .before .before .before .before .before .before in Admitted pagesPerFile (device s) (s .args .file) (range s)
-ready c = let s = c .before .before .before .before .before .before .before .before .before in file-ready pagesPerFile (device s) _ (range s) (c .before .before .admit .result) (c .before .before .admit .ensures .0 _ _ refl refl) _ (c .enum-told .given .1)
+ready c = let s = c .before .before .before .before .before .before .before .before .before in lent-ready pagesPerFile (came s) _ (range s) (c .before .before .admit .result) (c .before .before .admit .ensures .0 _ _ refl refl) _ (c .enum-told .given .1)
+
+all : (c : tie.After-enum-told) → let s = c .before .before .before .before .before .before .before .before .before in
+    (length (s .args .state .now) ≡ stateBytes) × (passed (fileTests pagesPerFile (device s) (s .args .file) (range s)) ≡ true)
+all c = let s = c .before .before .before .before .before .before .before .before .before in lent-passed pagesPerFile (came s) _ (range s) (c .before .before .admit .result) (c .before .before .admit .ensures .0 _ _ refl refl) _ (c .enum-told .given .1)
 
 in-limits : (c : tie.After-enum-told) → c .before .before .before .before .before .before .before .before .before .args .n ≤ fileBytes pagesPerFile
 in-limits c = leb-true _ _ (ready c .in-range)
-
--- the bytes of the state are those of a state
-encoded : (c : tie.After-enum-told) → IsEncoded (c .before .before .before .before .before .before .before .before .before .args .state .now)
-encoded c = c .before .before .admit .ensures .2 (ap (λ (a : Answer). coded a .number) (c .enum-told .given .1))
 
 table : (c : tie.After-enum-told) → c .before .before .admit .last .1 .1 .1 .1 .1 .1 .0 ≡ slotTable pagesPerFile (decode (c .before .before .before .before .before .before .before .before .before .args .state .now) .slots)
 table c = table-is _ _ _ _ (c .enum-told .given .1) (c .before .before .admit .ensures .1)
@@ -66,7 +67,7 @@ enum-told : tie.Need-enum-told
 enum-told c = search needs
 
 truncate-state-requires : tie.Need-truncate-state-requires
-truncate-state-requires c κs = (ready (c .before) .file, omega (arith, in-limits (c .before)), encoded (c .before))
+truncate-state-requires c κs = (ready (c .before) .file, omega (arith, in-limits (c .before)), all (c .before) .0)
 
 tail-slot-requires : tie.Need-tail-slot-requires
 tail-slot-requires c κs = (ready (c .before .before .before .before .before .before) .file, in-limits (c .before .before .before .before .before .before))
@@ -82,9 +83,8 @@ returns c =
     let b = c .before .before .before in
     let s = c .before .before .before .before .before .before .before .before .before .before in
     let x = c .before .admission .given .0 .0 in
-    let r = file-refused pagesPerFile (device s) (s .args .file) (range s) (b .admit .result) (b .admit .ensures .0 _ _ refl refl) x (c .before .admission .given .1) in
-    kept-on (call s) (came s) _ (refused-leaves pagesPerFile (s .args .file) (range s) (device s) x r)
-    (truncate-refused pagesPerFile (s .args .file) (s .args .n) (device s) x r)
+    let r = lent-refused pagesPerFile (came s) (s .args .file) (range s) (b .admit .result) (b .admit .ensures .0 _ _ refl refl) x (c .before .admission .given .1) in
+    refused-on (call s) (came s) _ x r (are-bytes _ (c .before .before .before .before .before .before .slice-known2 .given)) (truncate-refused pagesPerFile (s .args .file) (s .args .n) (device s) x)
 
 same-length-2 : tie.Need-same-length-2
 same-length-2 c = search needs
@@ -98,12 +98,10 @@ returns-2 c =
     let t = c .before .before .before .before .before .before .before .before .before .before in
     let s = c .before .before .before .before .before .before .before .before .before .before .before .before .before .before .before .before .before .before .before in
     let a = s .args in
-    let u = c .before .before .before .before .before .before .before .before .truncate-state .ensures in
+    let u = c .before .before .before .before .before .before .before .before in
     let k = c .before .before .before .tail-slot .ensures (decode (a .state .now)) (shaped (a .state .now) .slots) (table t) in
-    encoded-on (call s) (came s) _ (λ d. truncate-kept pagesPerFile d _ _) (encoded t) _ _ _ (u .1)
-    (truncate-done pagesPerFile (a .file) (a .n) (device s) _ _
-    (file-passed pagesPerFile (device s) _ _ (t .before .before .admit .result) (t .before .before .admit .ensures .0 _ _ refl refl) _ (t .enum-told .given .1))
-    (u .0) (c .before .before .clear-tail .ensures (a .media .now) (a .sizes .now) _ (a .file) (k ∙ sym (ap (λ (x : CacheState). firstIndex (holds (a .file) (a .n / pageBytes)) (x .slots)) (u .0)))))
+    bytes-on (call s) (came s) (all t .0) _ _ _ _ (omega (arith, all t .0, u .truncate-state .kept .0)) (are-bytes _ (c .before .before .before .before .before .before .slice-known3 .given))
+    (truncate-done pagesPerFile (a .file) (a .n) (device s) _ _ (all t .1) (u .truncate-state .ensures) (c .before .before .clear-tail .ensures (a .media .now) (a .sizes .now) _ (a .file) (k ∙ sym (ap (λ (x : CacheState). firstIndex (holds (a .file) (a .n / pageBytes)) (x .slots)) (u .truncate-state .ensures)))))
 
 pub truncate-spec : {M : Type 1} → statement M
 truncate-spec =

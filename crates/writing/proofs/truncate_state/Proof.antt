@@ -1,7 +1,8 @@
 -- `writing::truncate_state` meets its contract: slots, then sizes.
-use mathlib.Core.Path.{_≡_, _∙_}
+use native.Mathlib.Omega.{arith}
 use Rattle.state_bytes.specs.Encoding.{decode}
 use Rattle.writing.proofs.Tails.{sizes-set}
+use Rattle.state_bytes.proofs.Inverse.{are-bytes}
 use Rattle.state_bytes.proofs.InPlace.{logical-changed, floor-changed}
 use Rattle.cache_state.proofs.Freeing.{freed-changed}
 use borrow.Author.Needs.{needs}
@@ -35,10 +36,13 @@ same-length c = search needs
 returns : tie.Need-returns
 returns c =
     let s = c .before .before .before .before .before .before .before .before .before .before .before .before .before .before .before .before .before .before in
-    let x = freed-changed (s .args .file) (s .args .n) (s .args .state .now) (s .pre .2) _ (c .before .before .before .before .before .before .before .before .before .before .free-pages-from .ensures) in
-    let y = logical-changed _ (x .1) _ _ _ (c .before .before .before .before .before .before .set-logical .ensures) in
-    let z = floor-changed _ (y .1) _ _ _ (c .before .before .set-floor .ensures) in
-    (sizes-set (decode (s .args .state .now)) _ _ _ _ (s .args .file) (s .args .n) (c .before .before .before .before .before .before .before .before .before .before .before .before .before .before .before .logical-at .result) _ _ (c .before .before .before .before .before .before .before .before .before .before .before .before .before .floor-at .ensures) (c .before .before .before .before .before .before .before .before .before .before .before .before .truncated-sizes .ensures) (x .0) (y .0) (z .0), z .1)
+    let f = c .before .before .before .before .before .before .before .before .before .before in
+    let g = c .before .before .before .before .before .before in
+    let x = freed-changed (s .args .file) (s .args .n) (s .args .state .now) (s .pre .2) (are-bytes _ (c .before .before .before .before .before .before .before .before .before .before .before .before .before .before .before .before .before .slice-known .given)) _ (f .free-pages-from .ensures) in
+    let y = logical-changed _ (omega (arith, f .free-pages-from .kept .0)) (are-bytes _ (c .before .before .before .before .before .before .before .before .slice-known2 .given)) _ _ _ (g .set-logical .ensures) in
+    let z = floor-changed _ (omega (arith, f .free-pages-from .kept .0, g .set-logical .kept .0)) (are-bytes _ (c .before .before .before .before .slice-known3 .given)) _ _ _ (c .before .before .set-floor .ensures) in
+    sizes-set (decode (s .args .state .now)) _ _ _ _ (s .args .file) (s .args .n) (c .before .before .before .before .before .before .before .before .before .before .before .before .before .before .before .logical-at .result) _ _
+    (c .before .before .before .before .before .before .before .before .before .before .before .before .before .floor-at .ensures) (c .before .before .before .before .before .before .before .before .before .before .before .before .truncated-sizes .ensures) x y z
 
 pub truncate-state-spec : {M : Type 1} → statement M
 truncate-state-spec =

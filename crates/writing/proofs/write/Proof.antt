@@ -1,12 +1,11 @@
 -- `writing::write` meets its contract: refused, empty, without room, or put down page by page.
-use mathlib.Core.Path.{_≡_, refl, sym, _∙_, ap}
+use mathlib.Core.Path.{_≡_, refl, _∙_, ap}
 use mathlib.Core.Bool.{Bool, true}
 use Prim.Native.Nat.{_+_, _≤_}
 use native.Mathlib.Omega.{arith}
 use lib.Dec.{leb}
 use lib.ListN.{length}
 use borrow.Author.Tests.{leb-true}
-use Rattle.answer.specs.declared.Answer.{Answer}
 use Rattle.answer.specs.Coded.{coded, done}
 use Rattle.answer.specs.Admission.{firstRefusal}
 use Rattle.answer.proofs.Admission.{passed}
@@ -15,11 +14,12 @@ use Rattle.media.specs.Write.{mediaOf}
 use Rattle.device.specs.Device.{Device, deviceOf}
 use Rattle.device.specs.Admission.{Result, fileTests}
 use Rattle.device.specs.Writing.{Written, write}
-use Rattle.device.proofs.Admission.{Admitted, file-passed, file-refused, file-ready}
+use Rattle.device.proofs.Admission.{Admitted}
 use Rattle.device.proofs.Writing.{pages-most, write-refused, write-empty, write-full, write-done}
-use Rattle.state_bytes.specs.Encoding.{decode}
-use Rattle.state_bytes.specs.InPlace.{Lent, lent, deviceIn, IsEncoded}
-use Rattle.state_bytes.proofs.OnState.{kept-on, encoded-on, refused-leaves, write-kept}
+use Rattle.state_bytes.specs.Encoding.{stateBytes, decode}
+use Rattle.state_bytes.specs.InPlace.{Lent, lent, deviceIn, lentTests}
+use Rattle.state_bytes.proofs.Inverse.{are-bytes}
+use Rattle.state_bytes.proofs.OnBytes.{lent-passed, lent-ready, lent-refused, refused-on, bytes-on}
 use Rattle.cache_state.specs.Tables.{slotTable}
 use Rattle.cache_state.proofs.Soundness.{table-is}
 use borrow.Author.Needs.{needs}
@@ -40,24 +40,21 @@ abbrev call : tie.Start → Device → Result Device
 call c = write pagesPerFile (c .args .file) (c .args .position) (c .args .bytes .now)
 
 told : (c : tie.After-admit) → let s = c .before .before .before .before .before .before .before .before .before in
-    coded (c .admit .result) ≡ firstRefusal (fileTests pagesPerFile (device s) (s .args .file) (range s)) (done 0)
+    coded (c .admit .result) ≡ firstRefusal (lentTests pagesPerFile (came s) (s .args .file) (range s)) (done 0)
 told c =
     let s = c .before .before .before .before .before .before .before .before .before in
-    c .admit .ensures .0 _ _ refl refl ∙ ap (λ (b : Bool). firstRefusal (fileTests pagesPerFile (device s) (s .args .file) b) (done 0)) (c .before .before .before .sum-fits .ensures)
+    c .admit .ensures .0 _ _ refl refl ∙ ap (λ (b : Bool). firstRefusal (lentTests pagesPerFile (came s) (s .args .file) b) (done 0)) (c .before .before .before .sum-fits .ensures)
 
 -- what `admit` has tested
 ready : (c : tie.After-enum-told) → let s = c .before .before .before .before .before .before .before .before .before .before .before in Admitted pagesPerFile (device s) (s .args .file) (range s)
-ready c = let s = c .before .before .before .before .before .before .before .before .before .before .before in file-ready pagesPerFile (device s) _ (range s) (c .before .before .admit .result) (told (c .before .before)) _ (c .enum-told .given .1)
+ready c = let s = c .before .before .before .before .before .before .before .before .before .before .before in lent-ready pagesPerFile (came s) _ (range s) (c .before .before .admit .result) (told (c .before .before)) _ (c .enum-told .given .1)
 
-all : (c : tie.After-enum-told) → let s = c .before .before .before .before .before .before .before .before .before .before .before in passed (fileTests pagesPerFile (device s) (s .args .file) (range s)) ≡ true
-all c = let s = c .before .before .before .before .before .before .before .before .before .before .before in file-passed pagesPerFile (device s) _ (range s) (c .before .before .admit .result) (told (c .before .before)) _ (c .enum-told .given .1)
+all : (c : tie.After-enum-told) → let s = c .before .before .before .before .before .before .before .before .before .before .before in
+    (length (s .args .state .now) ≡ stateBytes) × (passed (fileTests pagesPerFile (device s) (s .args .file) (range s)) ≡ true)
+all c = let s = c .before .before .before .before .before .before .before .before .before .before .before in lent-passed pagesPerFile (came s) _ (range s) (c .before .before .admit .result) (told (c .before .before)) _ (c .enum-told .given .1)
 
 in-limits : (c : tie.After-enum-told) → let s = c .before .before .before .before .before .before .before .before .before .before .before in s .args .position + length (s .args .bytes .now) ≤ fileBytes pagesPerFile
 in-limits c = leb-true _ _ (ready c .in-range)
-
--- the bytes of the state are those of a state
-encoded : (c : tie.After-enum-told) → IsEncoded (c .before .before .before .before .before .before .before .before .before .before .before .args .state .now)
-encoded c = c .before .before .admit .ensures .2 (ap (λ (a : Answer). coded a .number) (c .enum-told .given .1))
 
 table : (c : tie.After-enum-told) → c .before .before .admit .last .1 .1 .1 .1 .1 .1 .0 ≡ slotTable pagesPerFile (decode (c .before .before .before .before .before .before .before .before .before .before .before .args .state .now) .slots)
 table c = table-is _ _ _ _ (c .enum-told .given .1) (c .before .before .admit .ensures .1)
@@ -72,7 +69,7 @@ put c =
 most : (c : tie.After-put-pages) → c .put-pages .result ≤ length (c .before .before .before .before .before .before .before .before .before .before .before .before .before .before .before .before .args .bytes .now)
 most c =
     let s = c .before .before .before .before .before .before .before .before .before .before .before .before .before .before .before .before in
-    let e = ap (λ (w : Written). w .count) (c .put-pages .ensures .0 (s .args .sizes .now)) in
+    let e = ap (λ (w : Written). w .count) (c .put-pages .ensures (s .args .sizes .now)) in
     omega (arith, e, pages-most pagesPerFile (s .args .file) pagesPerFile (s .args .position) (s .args .bytes .now) (device s))
 
 mul-sum-fits : tie.Need-mul-sum-fits
@@ -97,14 +94,14 @@ returns : tie.Need-returns
 returns c =
     let t = c .before in
     let s = c .before .before .before .before .before .before .before .before .before .before .before .before in
-    encoded-on (call s) (came s) _ (λ d. write-kept pagesPerFile d _ _ _) (encoded t) _ _ _ (encoded t)
-    (write-empty pagesPerFile (s .args .file) (s .args .position) (s .args .bytes .now) (device s) (all t) (omega arith))
+    bytes-on (call s) (came s) (all t .0) _ _ _ (s .args .state .now) (all t .0) (are-bytes _ (c .before .before .before .before .before .before .before .before .slice-known2 .given))
+    (write-empty pagesPerFile (s .args .file) (s .args .position) (s .args .bytes .now) (device s) (all t .1) (omega arith))
 
 put-pages-requires : tie.Need-put-pages-requires
 put-pages-requires c κs =
     let t = c .before .before .before .before in
     let ok = ready t in
-    (ok .bytes, ok .frames, ok .file, in-limits t, table t, encoded t)
+    (ok .bytes, ok .frames, ok .file, in-limits t, table t, all t .0)
 
 same-length-2 : tie.Need-same-length-2
 same-length-2 c = search needs
@@ -117,8 +114,8 @@ returns-2 c =
     let p = c .before .before .before .before .before in
     let t = c .before .before .before .before .before .before .before .before .before .before in
     let s = c .before .before .before .before .before .before .before .before .before .before .before .before .before .before .before .before .before .before .before .before .before in
-    encoded-on (call s) (came s) _ (λ d. write-kept pagesPerFile d _ _ _) (encoded t) _ _ _ (p .put-pages .ensures .1)
-    (write-full pagesPerFile (s .args .file) (s .args .position) (s .args .bytes .now) (device s) (all t) (omega arith) (omega arith) (put p) (p .put-pages .ensures .0 (s .args .sizes .now)) (c .if2 .taken))
+    bytes-on (call s) (came s) (all t .0) _ _ _ _ (omega (arith, all t .0, p .put-pages .kept .1 .1 .0)) (are-bytes _ (c .before .slice-known4 .given))
+    (write-full pagesPerFile (s .args .file) (s .args .position) (s .args .bytes .now) (device s) (all t .1) (omega arith) (omega arith) (put p) (p .put-pages .ensures (s .args .sizes .now)) (c .if2 .taken))
 
 add-grow : tie.Need-add-grow
 add-grow c = omega (arith, most (c .before .before .before .before .before .before), in-limits (c .before .before .before .before .before .before .before .before .before .before .before))
@@ -127,7 +124,7 @@ grow-requires : tie.Need-grow-requires
 grow-requires c κs =
     let p = c .before .before .before .before .before .before in
     let t = c .before .before .before .before .before .before .before .before .before .before .before in
-    (ready t .file, omega (arith, most p, in-limits t), p .put-pages .ensures .1)
+    (ready t .file, omega (arith, most p, in-limits t), omega (arith, all t .0, p .put-pages .kept .1 .1 .0))
 
 same-length-4 : tie.Need-same-length-4
 same-length-4 c = search needs
@@ -137,9 +134,8 @@ returns-3 c =
     let b = c .before .before .before in
     let s = c .before .before .before .before .before .before .before .before .before .before .before .before in
     let x = c .before .admission .given .0 .0 in
-    let r = file-refused pagesPerFile (device s) (s .args .file) (range s) (b .admit .result) (told b) x (c .before .admission .given .1) in
-    kept-on (call s) (came s) _ (refused-leaves pagesPerFile (s .args .file) (range s) (device s) x r)
-    (write-refused pagesPerFile (s .args .file) (s .args .position) (s .args .bytes .now) (device s) x r)
+    let r = lent-refused pagesPerFile (came s) (s .args .file) (range s) (b .admit .result) (told b) x (c .before .admission .given .1) in
+    refused-on (call s) (came s) _ x r (are-bytes _ (c .before .before .before .before .before .before .before .before .slice-known2 .given)) (write-refused pagesPerFile (s .args .file) (s .args .position) (s .args .bytes .now) (device s) x)
 
 same-length-5 : tie.Need-same-length-5
 same-length-5 c = search needs
@@ -152,10 +148,10 @@ returns-4 c =
     let p = c .before .before .before .before .before .before .before .before .before in
     let t = c .before .before .before .before .before .before .before .before .before .before .before .before .before .before in
     let s = c .before .before .before .before .before .before .before .before .before .before .before .before .before .before .before .before .before .before .before .before .before .before .before .before .before in
-    let g = c .before .before .grow .ensures in
-    encoded-on (call s) (came s) _ (λ d. write-kept pagesPerFile d _ _ _) (encoded t) _ _ _ (g .1)
-    (rw (g .0)
-    (write-done pagesPerFile (s .args .file) (s .args .position) (s .args .bytes .now) (device s) (all t) (omega arith) (put p) (p .put-pages .ensures .0 (s .args .sizes .now)) (c .before .before .before .before .if2 .left)))
+    let g = c .before .before in
+    bytes-on (call s) (came s) (all t .0) _ _ _ _ (omega (arith, all t .0, p .put-pages .kept .1 .1 .0, g .grow .kept .0)) (are-bytes _ (c .slice-known5 .given))
+    (rw (g .grow .ensures)
+    (write-done pagesPerFile (s .args .file) (s .args .position) (s .args .bytes .now) (device s) (all t .1) (omega arith) (put p) (p .put-pages .ensures (s .args .sizes .now)) (c .before .before .before .before .if2 .left)))
 
 pub write-spec : {M : Type 1} → statement M
 write-spec =

@@ -1,0 +1,493 @@
+-- Wrong stores, and that the demands rule each of them out: those of document 01, "Conditions of acceptance", its traps, and those
+-- that weaker claims let through.
+-- Each is this store with one call changed (the first two with all of them, or all but mount), or with another word of itself: a test, a
+-- cost, something that runs out. There are one or two pages in a file.
+use Prim.Native.Nat.{ℕ, suc, _+_, _-_, _*_, _/_, min}
+use mathlib.Core.Bool.{Bool, true, false, not, cond, _&&_}
+use mathlib.Core.List.{List, [], _∷_, _++_, map}
+use lib.Dec.{eqb, leb}
+use lib.ListN.{length, getD, take, drop, set}
+use Rattle.answer.specs.Admission.{ifDone}
+use Rattle.answer.specs.Coded.{Coded, done, SHAPE, DOWN, RANGE, NO-ROOM, CUT}
+use Rattle.memory.specs.Bytes.{zeros, part, overwrite}
+use Rattle.media.specs.Geometry.{files, pageBytes, fileBytes, mediaBytes, fileStart}
+use Rattle.media.specs.Write.{MediaWrite, mediaOf, sizeAt}
+use Rattle.media.specs.Write.MediaWrite.{page, size, trim}
+use Rattle.device.specs.declared.Slot.{Slot}
+use Rattle.device.specs.Device.{Device, deviceOf, freeSlot, frameStart, isUsed, freeWhere, isCached, logicalAt, floorAt, withSlots, withFloor, downState, mountedState}
+use Rattle.scan.specs.Scan.{every}
+use Rattle.device.specs.Sound.{isDown, isSound}
+use Rattle.device.specs.Current.{currentAt, currentBytes}
+use Rattle.device.specs.Admission.{Result, give, admit, fileTests, mountTests}
+use Rattle.device.specs.Truncating.{pagesFrom, clearTail, withSizes}
+use Rattle.device.specs.Syncing.{trimWrites, pageWrites, sizeWrites, syncPlan, pagesOf, syncedState}
+use Rattle.device.specs.Writing.{cachePage}
+use Rattle.device.specs.Plan.{writeIf, underBudget}
+use Rattle.device.specs.Mounting.{formatPlan}
+use Rattle.model.specs.Run.{Call, Reply, Interface}
+use Rattle.model.specs.Run.Call.{read, look, write, truncate, sync, mount}
+use Rattle.model.specs.Claims.{asItCame, Demand1, Demand2, Demand3}
+use Rattle.model.specs.Demands.{Demands}
+use Rattle.model.specs.View.{EXHAUSTED, sameBytes}
+use Rattle.model.specs.Format.{Format}
+use Rattle.model.specs.Store.{Calls, silent, storeLoses, storeWith, storeCalls, store}
+
+-- ---- this store with one call changed
+
+-- with other calls, another format, a test of what is borrowed beside it, a cost, and something that runs out
+abbrev pub interface : (P : ℕ) → (Call → Device → Reply Device) → (ℕ → Device → Reply Device) → (Device → Bool) → (Device → List MediaWrite → ℕ)
+    → (List MediaWrite → ℕ) → Interface
+interface P does formats shaped cost takes =
+    record {
+      State = Device;
+      does = does;
+      formats = formats;
+      Loss = List ℕ;
+      lose = storeLoses;
+      pages = λ d. P;
+      image = λ d. d;
+      lasting = λ d. d .media;
+      isShaped = shaped;
+      isIntact = λ d. true;
+      cost = cost;
+      reserve = λ d. 0;
+      takes = λ d. takes;
+    }
+
+module _ (P : ℕ) where
+  abbrev pub withRead : (ℕ → ℕ → List ℕ → Device → Result (List ℕ)) → Interface
+  withRead h =
+      let s : Calls = storeCalls P in
+      storeWith P (record { reading = h; looking = s .looking; writing = s .writing; truncating = s .truncating; syncing = s .syncing; mounting = s .mounting; formatting = s .formatting })
+
+  abbrev pub withLook : (ℕ → ℕ → Device → Result (List ℕ)) → Interface
+  withLook h =
+      let s : Calls = storeCalls P in
+      storeWith P (record { reading = s .reading; looking = h; writing = s .writing; truncating = s .truncating; syncing = s .syncing; mounting = s .mounting; formatting = s .formatting })
+
+  abbrev pub withWrite : (ℕ → ℕ → List ℕ → Device → Result Device) → Interface
+  withWrite h =
+      let s : Calls = storeCalls P in
+      storeWith P (record { reading = s .reading; looking = s .looking; writing = h; truncating = s .truncating; syncing = s .syncing; mounting = s .mounting; formatting = s .formatting })
+
+  abbrev pub withTruncate : (ℕ → ℕ → Device → Result Device) → Interface
+  withTruncate h =
+      let s : Calls = storeCalls P in
+      storeWith P (record { reading = s .reading; looking = s .looking; writing = s .writing; truncating = h; syncing = s .syncing; mounting = s .mounting; formatting = s .formatting })
+
+  abbrev pub withSync : (ℕ → ℕ → Device → Result Device) → Interface
+  withSync h =
+      let s : Calls = storeCalls P in
+      storeWith P (record { reading = s .reading; looking = s .looking; writing = s .writing; truncating = s .truncating; syncing = h; mounting = s .mounting; formatting = s .formatting })
+
+  abbrev pub withMount : (ℕ → Device → Result Device) → Interface
+  withMount h =
+      let s : Calls = storeCalls P in
+      storeWith P (record { reading = s .reading; looking = s .looking; writing = s .writing; truncating = s .truncating; syncing = s .syncing; mounting = h; formatting = s .formatting })
+
+  -- a sync with another plan
+  abbrev pub withPlan : (Device → ℕ → List MediaWrite) → Interface
+  withPlan plan = withSync (λ f budget d. admit (fileTests P d f true) d (underBudget P budget (plan d f) (syncedState (d .cache) f) d))
+
+-- ---- stores that are not accepted
+
+-- turns every call down, but for mounts as given
+abbrev pub refusing : (ℕ → Device → Result Device) → Interface
+refusing h =
+    storeWith 1
+    (record {
+      reading = λ f position buffer d. give DOWN buffer;
+      looking = λ f position d. give DOWN [];
+      writing = λ f position bytes d. give DOWN d;
+      truncating = λ f n d. give DOWN d;
+      syncing = λ f budget d. give DOWN d;
+      mounting = h;
+      formatting = storeCalls 1 .formatting;
+    })
+
+-- turns every call down
+abbrev pub refusesAll : Interface
+refusesAll = refusing (λ budget d. give DOWN d)
+
+-- mounts, and turns every other call down
+abbrev pub idle : Interface
+idle = refusing (storeCalls 1 .mounting)
+
+-- accepts writes while down, and loses them
+abbrev pub writesWhileDown : Interface
+writesWhileDown = withWrite 1 (λ f position bytes d. cond (eqb (d .cache .mounted) 0) (give (done (length bytes)) d) (storeCalls 1 .writing f position bytes d))
+
+-- says NO ROOM at once
+abbrev pub neverRoom : Interface
+neverRoom = withWrite 1 (λ f position bytes d. give NO-ROOM d)
+
+-- says CUT at once
+abbrev pub alwaysCut : Interface
+alwaysCut = withSync 1 (λ f budget d. give (CUT budget) (deviceOf (d .media) (d .frames) downState))
+
+-- a read with constant bytes
+abbrev pub constantRead : Interface
+constantRead = withRead 1 (λ f position buffer d. give (storeCalls 1 .reading f position buffer d .answer) (zeros (length buffer)))
+
+-- a read that copies none
+abbrev pub copiesNone : Interface
+copiesNone = withRead 1 (λ f position buffer d. give (storeCalls 1 .reading f position buffer d .answer) buffer)
+
+-- a look that hands back nothing
+abbrev pub emptyLook : Interface
+emptyLook = withLook 1 (λ f position d. give (storeCalls 1 .looking f position d .answer) [])
+
+-- a sync that stores a file once, and later only says so
+abbrev pub pretends : Interface
+pretends =
+    withSync 1 (λ f budget d.
+    cond (eqb (sizeAt (d .media) f) 0) (storeCalls 1 .syncing f budget d) (give (done 0) (deviceOf (d .media) (d .frames) (syncedState (d .cache) f))))
+
+-- a sync that invents its store count
+abbrev pub inventsCount : Interface
+inventsCount = withSync 1 (λ f budget d. let r : Result Device = storeCalls 1 .syncing f budget d in give (ifDone (r .answer) (done 7) (r .answer)) (r .left))
+
+-- a write that stops before it must
+abbrev pub stopsEarly : Interface
+stopsEarly = withWrite 1 (λ f position bytes d. storeCalls 1 .writing f position (take 1 bytes) d)
+
+-- a write that loses the frames
+abbrev pub losesFrames : Interface
+losesFrames =
+    withWrite 1 (λ f position bytes d.
+    let r : Result Device = storeCalls 1 .writing f position bytes d in give (r .answer) (deviceOf (r .left .media) [] (r .left .cache)))
+
+-- a mount that is done and leaves the device down
+abbrev pub staysDown : Interface
+staysDown = withMount 1 (λ budget d. let r : Result Device = storeCalls 1 .mounting budget d in give (r .answer) (deviceOf (r .left .media) (r .left .frames) downState))
+
+-- a cut that stores nothing
+abbrev pub cutStoresNone : Interface
+cutStoresNone =
+    withSync 1 (λ f budget d.
+    let r : Result Device = storeCalls 1 .syncing f budget d in
+    give (r .answer) (cond (eqb (r .answer .number) 9) (deviceOf (d .media) (d .frames) downState) (r .left)))
+
+-- a write that loses the mount
+abbrev pub dropsMount : Interface
+dropsMount =
+    withWrite 1 (λ f position bytes d.
+    let r : Result Device = storeCalls 1 .writing f position bytes d in give (r .answer) (deviceOf (r .left .media) (r .left .frames) downState))
+
+-- a refusal that changes something
+abbrev pub spoils : Interface
+spoils = withTruncate 1 (λ f n d. give RANGE (deviceOf (d .media) (d .frames) downState))
+
+-- a cut that leaves the device mounted
+abbrev pub cutMounted : Interface
+cutMounted = withSync 1 (λ f budget d. give (CUT budget) d)
+
+-- a write that leaves a cache state that is not sound
+abbrev pub breaksState : Interface
+breaksState =
+    withWrite 1 (λ f position bytes d.
+    let r : Result Device = storeCalls 1 .writing f position bytes d in
+    ifDone (r .answer) (give (r .answer) (deviceOf (r .left .media) (r .left .frames) (withFloor (r .left .cache) f (fileBytes 1)))) r)
+
+-- a sync that keeps the file's pages cached
+abbrev pub keepsPages : Interface
+keepsPages =
+    withSync 1 (λ f budget d. admit (fileTests 1 d f true) d (underBudget 1 budget (syncPlan 1 d f) (withFloor (d .cache) f (logicalAt d f)) d))
+
+-- a write that takes a slot for a page of another file
+abbrev pub hoards : Interface
+hoards =
+    withWrite 1 (λ f position bytes d.
+    let r : Result Device = storeCalls 1 .writing f position bytes d in ifDone (r .answer) (give (r .answer) (cachePage 1 (suc f) 0 (r .left))) r)
+
+-- a write that stores at once
+abbrev pub storesAtOnce : Interface
+storesAtOnce =
+    withWrite 1 (λ f position bytes d.
+    let r : Result Device = storeCalls 1 .writing f position bytes d in ifDone (r .answer) (give (r .answer) (storeCalls 1 .syncing f 18 (r .left) .left)) r)
+
+-- a mount that wipes the files of a device whose cache state it does not like
+abbrev pub wipes : Interface
+wipes =
+    withMount 1 (λ budget d.
+    let r : Result Device = storeCalls 1 .mounting budget d in
+    cond (leb (d .cache .mounted) 1) r
+    (ifDone (r .answer) (give (r .answer) (deviceOf (mediaOf (zeros (mediaBytes 1)) (zeros files)) (d .frames) (mountedState (zeros files)))) r))
+
+-- ---- the traps
+
+-- storing pages in slot order
+unfoldable pub slotWrites : List Slot → ℕ → List ℕ → ℕ → List MediaWrite
+slotWrites [] k frames f = []
+slotWrites (s ∷ slots) k frames f =
+    writeIf (isUsed s && eqb (s .file) f) (page f (s .page) (part frames (frameStart k) pageBytes)) ++ slotWrites slots (suc k) frames f
+
+abbrev pub inSlotOrder : Interface
+inSlotOrder = withPlan 2 (λ d f. trimWrites d f ++ (slotWrites (d .cache .slots) 0 (d .frames) f ++ sizeWrites d f))
+
+-- storing the size before the pages
+abbrev pub sizeFirst : Interface
+sizeFirst = withPlan 1 (λ d f. trimWrites d f ++ (sizeWrites d f ++ pageWrites d f 1 0))
+
+-- a floor that is the last truncate, not the lowest
+abbrev pub latestTruncate : Interface
+latestTruncate =
+    withTruncate 1 (λ f n d.
+    admit (fileTests 1 d f (leb n (fileBytes 1))) d
+    (give (done 0)
+    (clearTail f n
+    (deviceOf (d .media) (d .frames)
+    (withSizes f (record { logical = n; floor = min (sizeAt (d .media) f) n; stored = sizeAt (d .media) f })
+    (withSlots (d .cache) (map (freeWhere (pagesFrom f n)) (d .cache .slots))))))))
+
+-- no TRIM where the size is the stored one again
+abbrev pub trimSkipped : Interface
+trimSkipped = withPlan 1 (λ d f. cond (eqb (logicalAt d f) (sizeAt (d .media) f)) [] (trimWrites d f) ++ (pageWrites d f 1 0 ++ sizeWrites d f))
+
+-- a mount with no TRIMs
+abbrev pub mountLeaves : Interface
+mountLeaves = withMount 1 (λ budget d. admit (mountTests 1 (d .media)) d (underBudget 1 budget [] (mountedState (d .media .sizes)) d))
+
+-- ---- stores that weaker claims let through
+
+-- a write, and then
+abbrev pub writesThen : (ℕ → Device → Device → Device) → Interface
+writesThen h =
+    withWrite 1 (λ f position bytes d.
+    let r : Result Device = storeCalls 1 .writing f position bytes d in ifDone (r .answer) (give (r .answer) (h f d (r .left))) r)
+
+-- the pages of file f are free
+abbrev pub uncached : ℕ → Device → Device
+uncached f d = deviceOf (d .media) (d .frames) (withSlots (d .cache) (map (freeWhere (pagesOf f)) (d .cache .slots)))
+
+-- all bytes of file f, the one page that it has here
+abbrev pub wholeFile : Device → ℕ → List ℕ
+wholeFile d f = currentBytes 1 d f 0 (fileBytes 1)
+
+abbrev pub allZero : List ℕ → Bool
+allZero bytes = every (λ b. eqb b 0) bytes
+
+-- a write that takes no slot for bytes that are there
+abbrev pub skipsEqual : Interface
+skipsEqual =
+    writesThen (λ f before after.
+    cond (isCached before f 0) after (cond (sameBytes (wholeFile before f) (wholeFile after f)) (uncached f after) after))
+
+-- one that drops a page whose bytes are the media's again
+abbrev pub dropsEqual : Interface
+dropsEqual = writesThen (λ f before after. cond (sameBytes (wholeFile (uncached f after) f) (wholeFile after f)) (uncached f after) after)
+
+-- one that takes no slot for zeros past the end
+abbrev pub skipsZeros : Interface
+skipsZeros =
+    writesThen (λ f before after.
+    cond (isCached before f 0) after (cond (eqb (floorAt after f) 0 && allZero (wholeFile after f)) (uncached f after) after))
+
+-- a truncate that forgets one down and up over zeros
+abbrev pub forgetsTruncate : Interface
+forgetsTruncate =
+    withTruncate 1 (λ f n d.
+    let r : Result Device = storeCalls 1 .truncating f n d in
+    let low : ℕ = floorAt (r .left) f in
+    let zeroFrom : Bool = allZero (part (d .media .bytes) (fileStart 1 f + low) (n - low)) in
+    ifDone (r .answer)
+    (give (r .answer) (deviceOf (r .left .media) (r .left .frames) (withFloor (r .left .cache) f (cond zeroFrom (min n (sizeAt (d .media) f)) low)))) r)
+
+-- the bytes of a file that is empty on the media go there, and its size does not
+abbrev pub putPast : ℕ → Device → Device
+putPast f d =
+    cond (eqb (sizeAt (d .media) f) 0)
+    (deviceOf (mediaOf (overwrite (d .media .bytes) (fileStart 1 f) (wholeFile d f)) (d .media .sizes)) (d .frames) (d .cache)) d
+
+-- a write that stores pages past the stored size at once
+abbrev pub storesPast : Interface
+storesPast = writesThen (λ f before after. putPast f after)
+
+-- a sync that stores pages of another file, past its stored size
+abbrev pub syncsOthers : Interface
+syncsOthers =
+    withSync 1 (λ f budget d.
+    let r : Result Device = storeCalls 1 .syncing f budget d in ifDone (r .answer) (give (r .answer) (putPast (suc f) (r .left))) r)
+
+-- a look that hides the zeros of a cached page
+abbrev pub hidesZeros : Interface
+hidesZeros =
+    withLook 1 (λ f position d.
+    let r : Result (List ℕ) = storeCalls 1 .looking f position d in give (r .answer) (cond (allZero (r .left)) [] (r .left)))
+
+-- a sync that leaves other bytes in the page frames
+abbrev pub scribbles : Interface
+scribbles =
+    withSync 1 (λ f budget d.
+    let r : Result Device = storeCalls 1 .syncing f budget d in
+    ifDone (r .answer) (give (r .answer) (deviceOf (r .left .media) (overwrite (r .left .frames) 0 (9 ∷ [])) (r .left .cache))) r)
+
+-- a read that lies where no run leads: with a byte other than 0 past the end of the file
+abbrev pub liesElsewhere : Interface
+liesElsewhere =
+    withRead 1 (λ f position buffer d.
+    cond (eqb (currentAt 1 d f (logicalAt d f)) 0) (storeCalls 1 .reading f position buffer d)
+    (admit (fileTests 1 d f (leb position (fileBytes 1))) buffer (give (done 7) buffer)))
+
+-- the pages of slots 0 and 1 change places
+abbrev pub swapped : Device → Device
+swapped d =
+    let slots : List Slot = d .cache .slots in
+    deviceOf (d .media)
+    (part (d .frames) pageBytes pageBytes ++ (part (d .frames) 0 pageBytes ++ drop (2 * pageBytes) (d .frames)))
+    (withSlots (d .cache) (set (set slots 0 (getD slots 1 freeSlot)) 1 (getD slots 0 freeSlot)))
+
+-- a write that moves cached pages to other slots, and a truncate that does
+abbrev pub writeMoves : Interface
+writeMoves = writesThen (λ f before after. swapped after)
+
+abbrev pub truncateMoves : Interface
+truncateMoves =
+    withTruncate 1 (λ f n d. let r : Result Device = storeCalls 1 .truncating f n d in ifDone (r .answer) (give (r .answer) (swapped (r .left))) r)
+
+-- a write of no bytes that alters a free page frame
+abbrev pub stirs : Interface
+stirs =
+    withWrite 1 (λ f position bytes d.
+    let r : Result Device = storeCalls 1 .writing f position bytes d in
+    ifDone (r .answer)
+    (give (r .answer) (deviceOf (r .left .media) (cond (eqb (length bytes) 0) (overwrite (r .left .frames) 0 (9 ∷ [])) (r .left .frames)) (r .left .cache))) r)
+
+-- a truncate that leaves no slots where no run leads
+abbrev pub breaksElsewhere : Interface
+breaksElsewhere =
+    withTruncate 1 (λ f n d.
+    let r : Result Device = storeCalls 1 .truncating f n d in
+    cond (eqb (currentAt 1 d f (logicalAt d f)) 0) r
+    (ifDone (r .answer) (give (r .answer) (deviceOf (r .left .media) (r .left .frames) (withSlots (r .left .cache) []))) r))
+
+-- calls that all output one byte
+abbrev pub chatters : Interface
+chatters =
+    let s : Interface = storeWith 1 (storeCalls 1) in
+    interface 1 (λ c d. let r : Reply Device = s .does c d in record { answer = r .answer; output = 1 ∷ []; device = r .device }) (s .formats) (λ d. true) (λ d. length) (λ ws. 0)
+
+-- a store that refuses everything by a test of its own
+abbrev pub refusesAlone : Interface
+refusesAlone =
+    interface 1 (λ c d. record { answer = SHAPE; output = asItCame c; device = d }) (λ budget d. silent (give SHAPE d)) (λ d. false) (λ d. length) (λ ws. 0)
+
+-- a store on which every sync runs out of something
+abbrev pub wornOut : Interface
+wornOut =
+    let s : Interface = withSync 1 (λ f budget d. admit (fileTests 1 d f true) d (give (cond (eqb (length (syncPlan 1 d f)) 0) (done 0) EXHAUSTED) d)) in
+    interface 1 (s .does) (s .formats) (λ d. true) (λ d. length) length
+
+-- a reply under half the budget that counts double
+abbrev pub twice : ℕ → Reply Device → Reply Device
+twice budget r =
+    let a : Coded = cond (eqb (r .answer .number) 9) (CUT budget) (record { number = r .answer .number; count = 2 * r .answer .count }) in
+    record { answer = a; output = r .output; device = r .device }
+
+-- a store that asks and counts two for each media write
+abbrev pub dearCalls : Call → Device → Reply Device
+dearCalls (read f position buffer) d = store 1 .does (read f position buffer) d
+dearCalls (look f position) d = store 1 .does (look f position) d
+dearCalls (write f position bytes) d = store 1 .does (write f position bytes) d
+dearCalls (truncate f n) d = store 1 .does (truncate f n) d
+dearCalls (sync f budget) d = twice budget (store 1 .does (sync f (budget / 2)) d)
+dearCalls (mount budget) d = twice budget (store 1 .does (mount (budget / 2)) d)
+
+abbrev pub overcharges : Interface
+overcharges = interface 1 dearCalls (λ budget d. twice budget (store 1 .formats (budget / 2) d)) (λ d. true) (λ d ws. 2 * length ws) (λ ws. 0)
+
+-- the device is down, file 0 is not empty, and the first media write empties it: no other call than format has such media writes there
+abbrev pub formatsFile0 : Device → List MediaWrite → Bool
+formatsFile0 d [] = false
+formatsFile0 d (page f p bytes ∷ ws) = false
+formatsFile0 d (size f n ∷ ws) = false
+formatsFile0 d (trim f n ∷ ws) = (eqb (d .cache .mounted) 0 && not (eqb (sizeAt (d .media) 0) 0)) && (eqb f 0 && eqb n 0)
+
+-- a store whose format asks and counts two for each media write there
+abbrev pub dearFormat : Interface
+dearFormat =
+    let dear : Device → Bool = λ d. formatsFile0 d (formatPlan 1 (d .media)) in
+    interface 1 (store 1 .does) (λ budget d. cond (dear d) (twice budget (store 1 .formats (budget / 2) d)) (store 1 .formats budget d)) (λ d. true)
+    (λ d ws. cond (formatsFile0 d ws) (2 * length ws) (length ws)) (λ ws. 0)
+
+-- a store that says SHAPE where the cache state is not sound
+abbrev pub refusesUnsound : Interface
+refusesUnsound =
+    let s : Interface = storeWith 1 (storeCalls 1) in
+    let sound : Device → Bool = λ d. isSound 1 (d .media .sizes) (d .cache) in
+    interface 1 (λ c d. cond (sound d) (s .does c d) (record { answer = SHAPE; output = asItCame c; device = d })) (s .formats) sound (λ d. length) (λ ws. 0)
+
+-- a truncate that leaves the device down where nothing is cached or stored
+abbrev pub truncateDown : Interface
+truncateDown =
+    withTruncate 1 (λ f n d.
+    let r : Result Device = storeCalls 1 .truncating f n d in
+    ifDone (r .answer) (cond (isDown (r .left .cache)) (give (r .answer) (deviceOf (r .left .media) (r .left .frames) downState)) r) r)
+
+-- a format that leaves no media
+abbrev pub formatsNone : Interface
+formatsNone =
+    let s : Calls = storeCalls 1 in
+    storeWith 1
+    (record {
+      reading = s .reading;
+      looking = s .looking;
+      writing = s .writing;
+      truncating = s .truncating;
+      syncing = s .syncing;
+      mounting = s .mounting;
+      formatting = λ budget d. give (done 0) (deviceOf (mediaOf [] []) (d .frames) downState);
+    })
+
+-- ---- the claim
+
+abbrev pub RuledOut : Type 0
+RuledOut =
+    (Demand1 refusesAll → ⊥)
+    × (Demand1 writesWhileDown → ⊥)
+    × (Demand1 spoils → ⊥)
+    × (Demand1 cutMounted → ⊥)
+    × (Demand1 cutStoresNone → ⊥)
+    × (Demand1 staysDown → ⊥)
+    × (Demand1 dropsMount → ⊥)
+    × (Demand1 losesFrames → ⊥)
+    × (Demand1 storesAtOnce → ⊥)
+    × (Demand1 wipes → ⊥)
+    × (Demand1 idle → ⊥)
+    × (Demand1 neverRoom → ⊥)
+    × (Demand1 alwaysCut → ⊥)
+    × (Demand2 stopsEarly → ⊥)
+    × (Demand2 breaksState → ⊥)
+    × (Demand2 keepsPages → ⊥)
+    × (Demand2 hoards → ⊥)
+    × (Demand2 constantRead → ⊥)
+    × (Demand2 copiesNone → ⊥)
+    × (Demand2 emptyLook → ⊥)
+    × (Demand2 pretends → ⊥)
+    × (Demand2 inventsCount → ⊥)
+    × (Demand3 inSlotOrder → ⊥)
+    × (Demand3 sizeFirst → ⊥)
+    × (Demand2 latestTruncate → ⊥)
+    × (Demand2 trimSkipped → ⊥)
+    × (Demand2 mountLeaves → ⊥)
+    × (Demand2 skipsEqual → ⊥)
+    × (Demand2 dropsEqual → ⊥)
+    × (Demand2 skipsZeros → ⊥)
+    × (Demand2 forgetsTruncate → ⊥)
+    × (Demand1 storesPast → ⊥)
+    × (Demand1 syncsOthers → ⊥)
+    × (Demand2 hidesZeros → ⊥)
+    × (Demand1 scribbles → ⊥)
+    × (Demand1 liesElsewhere → ⊥)
+    × (Demand1 writeMoves → ⊥)
+    × (Demand1 truncateMoves → ⊥)
+    × (Demand1 stirs → ⊥)
+    × (Demand1 breaksElsewhere → ⊥)
+    × (Demand1 chatters → ⊥)
+    × (Demand1 truncateDown → ⊥)
+    × (Format formatsNone → ⊥)
+    × (Demands 1 1 0 0 wornOut → ⊥)
+    × (Demands 1 1 0 0 overcharges → ⊥)
+    × (Demands 1 1 0 0 dearFormat → ⊥)
+    × (Demands 1 1 0 0 refusesAlone → ⊥)
+    × (Demands 1 1 0 0 refusesUnsound → ⊥)
