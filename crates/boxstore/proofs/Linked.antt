@@ -24,7 +24,7 @@ use Rattle.device.proofs.Truncating.{truncate-by}
 use Rattle.device.proofs.Syncing.{sync-by}
 use Rattle.device.proofs.Mounting.{mount-by, format-by}
 use Rattle.state_bytes.specs.Encoding.{stateBytes}
-use Rattle.state_bytes.specs.Inverse.{AreBytes}
+use Rattle.state_bytes.specs.Inverse.{areBytes}
 use Rattle.state_bytes.specs.InPlace.{Lent, deviceIn, stateShape, onBytes, readBytes}
 use Rattle.state_bytes.proofs.Inverse.{inverse}
 use Rattle.state_bytes.proofs.OnBytes.{Kind, same-on, same-read, same-count, same-span, write-shaped, truncate-shaped, sync-shaped, mount-shaped, format-shaped}
@@ -54,7 +54,7 @@ module _ (P : ℕ) (d : Device) where
   format-kept budget = format-by P budget d (Kept d) (λ k lo hi n m. refl) (λ l n m. absurd (m refl)) (λ l x y n m. absurd (n refl))
 
 module _ (call : Device → Result Device) (kept : (d : Device) → Kept d (call d)) where
-  refused : (l : Lent) → AreBytes (l .state) → onBytes call l .answer .number ≢ 0 → onBytes call l .answer .number ≢ 9 → onBytes call l .left ≡ l
+  refused : (l : Lent) → areBytes (l .state) ≡ true → onBytes call l .answer .number ≢ 0 → onBytes call l .answer .number ≢ 9 → onBytes call l .left ≡ l
   unfolding onBytes stateShape
   refused l small n m =
       cases (eqb (length (l .state)) stateBytes)

@@ -2,6 +2,7 @@
 -- state that it leaves there: so whatever is proved of lists of calls holds of a linked caller's. As many bytes as a state has are
 -- always those of a state (state_bytes, Inverse). A refusal of the first eight leaves every byte. A word tells its answer.
 use mathlib.Core.Path.{_≡_}
+use mathlib.Core.Bool.{true}
 use mathlib.Core.Logic.{_≢_}
 use mathlib.Core.List.{List}
 use Prim.Native.Nat.{ℕ, _<_}
@@ -18,14 +19,14 @@ use Rattle.device.specs.Truncating.{truncate}
 use Rattle.device.specs.Syncing.{sync}
 use Rattle.device.specs.Mounting.{mount, format}
 use Rattle.state_bytes.specs.Encoding.{encode}
-use Rattle.state_bytes.specs.Inverse.{Shaped, AreBytes}
+use Rattle.state_bytes.specs.Inverse.{Shaped, areBytes}
 use Rattle.state_bytes.specs.InPlace.{Lent, lent, inBytes, onBytes, readBytes, lookCountBytes, lookSpanBytes}
 use Rattle.boxstore.specs.Interface.{wordOf, spanWord}
 
 pub record OnBytes (call : Device → Result Device) : Type 0 where
   pub same : (m : Media) (frames : List ℕ) (s : CacheState) → Shaped s → onBytes call (lent m frames (encode s)) ≡ inBytes (call (deviceOf m frames s))
   pub shaped : (d : Device) → Shaped (d .cache) → Shaped (call d .left .cache)
-  pub refused : (l : Lent) → AreBytes (l .state) → onBytes call l .answer .number ≢ 0 → onBytes call l .answer .number ≢ 9 → onBytes call l .left ≡ l
+  pub refused : (l : Lent) → areBytes (l .state) ≡ true → onBytes call l .answer .number ≢ 0 → onBytes call l .answer .number ≢ 9 → onBytes call l .left ≡ l
   pub small : (l : Lent) → onBytes call l .answer .count < 65536
 
 -- P is the number of pages in a file

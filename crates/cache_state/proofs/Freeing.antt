@@ -19,7 +19,7 @@ use Rattle.device.specs.declared.CacheState.{CacheState}
 use Rattle.device.specs.Device.{slotCount, freeSlot, freeWhere, withSlots}
 use Rattle.device.specs.Truncating.{pagesFrom}
 use Rattle.state_bytes.specs.Encoding.{stateBytes, slotsAt, slotBytes, encode, decode, elementSet, slotSet, zerosFrom, eightFree}
-use Rattle.state_bytes.specs.Inverse.{Shaped, AreBytes}
+use Rattle.state_bytes.specs.Inverse.{Shaped, areBytes}
 use Rattle.state_bytes.proofs.Inverse.{inverse}
 use Rattle.state_bytes.proofs.InPlace.{shaped, changed, slot-read, slot-set}
 use Rattle.state_bytes.proofs.Zeros.{zeros-at}
@@ -129,7 +129,7 @@ module _ (f n : ℕ) (s : CacheState) (h : Shaped s) where
       ∙ ap (λ (l : List Slot). encode (withSlots s l)) (map-done (freeWhere (pagesFrom f n)) slotCount (s .slots) (omega (arith, h .slots)))
 
 -- in any bytes
-module _ (f n : ℕ) (bytes : List ℕ) (e : length bytes ≡ stateBytes) (small : AreBytes bytes) where
+module _ (f n : ℕ) (bytes : List ℕ) (e : length bytes ≡ stateBytes) (small : areBytes bytes ≡ true) where
   pub freed-changed : (after : List ℕ) → after ≡ freedSlots f n slotCount bytes
       → decode after ≡ withSlots (decode bytes) (map (freeWhere (pagesFrom f n)) (decode bytes .slots))
   freed-changed =

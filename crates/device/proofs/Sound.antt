@@ -23,6 +23,12 @@ use Rattle.scan.proofs.Scan.{and-left, and-right, is-false, true-not-false, all
 use Rattle.device.proofs.Sizes.{order-true, order-is}
 use Rattle.device.proofs.Device.{holds-own, holds-one, free-unused, free-holds, slot-stays}
 
+pub lengths-are : (s : CacheState) → hasLengths s ≡ true → (length (s .slots) ≡ slotCount) × (length (s .logical) ≡ files) × (length (s .floor) ≡ files)
+unfolding hasLengths
+lengths-are s t =
+    let tests : List Bool = eqb (length (s .slots)) slotCount ∷ eqb (length (s .logical)) files ∷ eqb (length (s .floor)) files ∷ [] in
+    (eqb-true _ _ (allOf-at tests t 0), eqb-true _ _ (allOf-at tests t 1), eqb-true _ _ (allOf-at tests t 2))
+
 module _ (P : ℕ) where
   -- ---- facts
 
@@ -56,11 +62,8 @@ module _ (P : ℕ) where
 
   pub sound-lengths : (stored : List ℕ) (s : CacheState) → isSound P stored s ≡ true
       → (length (s .slots) ≡ slotCount) × (length (s .logical) ≡ files) × (length (s .floor) ≡ files)
-  unfolding isSound soundTests hasLengths
-  sound-lengths stored s e =
-      let tests : List Bool = eqb (length (s .slots)) slotCount ∷ eqb (length (s .logical)) files ∷ eqb (length (s .floor)) files ∷ [] in
-      let t : allOf tests ≡ true = allOf-at (soundTests P stored s) e 5 in
-      (eqb-true _ _ (allOf-at tests t 0), eqb-true _ _ (allOf-at tests t 1), eqb-true _ _ (allOf-at tests t 2))
+  unfolding isSound soundTests
+  sound-lengths stored s e = lengths-are s (allOf-at (soundTests P stored s) e 5)
 
   -- a sound device has these facts
   pub sound-fit : (d : Device) → isSound P (d .media .sizes) (d .cache) ≡ true → length (d .media .bytes) ≡ mediaBytes P → length (d .media .sizes) ≡ files

@@ -8,6 +8,7 @@ use lib.Dec.{eqb, ltb}
 use lib.ListN.{length, getD, List·getD-eq-default}
 use borrow.Author.Tests.{eqb-true, eq-eqb, ltb-true, lt-ltb}
 use borrow.Table.Steps.{cases}
+use Rattle.memory.specs.Bytes.{isByte}
 use Rattle.scan.specs.Scan.{allOf, every}
 use Rattle.memory.proofs.Cases.{split-lt}
 use Rattle.scan.proofs.Scan.{and-left, and-right, allOf-at, every-at, every-all}
@@ -16,51 +17,46 @@ use Rattle.device.specs.declared.Slot.{Slot}
 use Rattle.device.specs.declared.CacheState.{CacheState}
 use Rattle.device.specs.Device.{slotCount, freeSlot, isUsed, isFree}
 use Rattle.device.specs.Sound.{inRange, hasLengths, isSound, soundTests}
-use Rattle.device.proofs.Sound.{sound-lengths, sound-mark, sound-sizes}
+use Rattle.device.proofs.Sound.{lengths-are, sound-lengths, sound-mark, sound-sizes}
 use Rattle.state_bytes.specs.Encoding.{stateBytes, encode, joined, slotBytes, numberBytes}
-use Rattle.state_bytes.specs.Inverse.{Shaped, AreBytes}
+use Rattle.state_bytes.specs.Inverse.{Shaped, areBytes}
 use Rattle.state_bytes.proofs.Inverse.{length-encode}
-use Rattle.model.specs.Demands.{isByte, isSize, fitsTypes}
-use Rattle.linked_claims.specs.LinkedStore.{areBytes, isState}
+use Rattle.model.specs.Demands.{isSize, fitsTypes}
+use Rattle.linked_claims.specs.LinkedStore.{isState}
 
 -- what the test says
-pub state-bytes : (xs : List ℕ) → isState xs ≡ true → (length xs ≡ stateBytes) × AreBytes xs
-unfolding isState AreBytes
-state-bytes xs e = (
-  eqb-true _ _ (and-right (areBytes xs) _ e),
-  λ i. split-lt i (length xs)
-      (λ h. ltb-true _ _ (every-at (λ b. ltb b 256) xs 0 (and-left (areBytes xs) _ e) i h))
-      (λ h. rw (List·getD-eq-default xs 0 h) (omega arith)),
-)
+pub state-bytes : (xs : List ℕ) → isState xs ≡ true → (length xs ≡ stateBytes) × (areBytes xs ≡ true)
+unfolding isState
+state-bytes xs e = (eqb-true _ _ (and-right (areBytes xs) _ e), and-left (areBytes xs) _ e)
 
 abbrev slotHeld : Slot → Bool
 slotHeld k = allOf (isByte (k .used) ∷ isByte (k .file) ∷ isByte (k .page) ∷ [])
 
 bytes-append : (xs ys : List ℕ) → areBytes xs ≡ true → areBytes ys ≡ true → areBytes (xs ++ ys) ≡ true
+unfolding areBytes
 bytes-append [] ys h k = k
-bytes-append (x ∷ xs) ys h k = rw (and-left (ltb x 256) (areBytes xs) h) (bytes-append xs ys (and-right (ltb x 256) (areBytes xs) h) k)
+bytes-append (x ∷ xs) ys h k = rw (and-left (isByte x) (areBytes xs) h) (bytes-append xs ys (and-right (isByte x) (areBytes xs) h) k)
 
 bytes-joined : {A : Type 0} (g : A → List ℕ) (t : A → Bool) → ((x : A) → t x ≡ true → areBytes (g x) ≡ true) → (xs : List A) → every t xs ≡ true → areBytes (joined g xs) ≡ true
+unfolding areBytes
 bytes-joined g t h [] e = refl
 bytes-joined g t h (x ∷ xs) e =
     bytes-append (g x) (joined g xs) (h x (and-left (t x) (every t xs) e)) (bytes-joined g t h xs (and-right (t x) (every t xs) e))
 
 number-bytes : (n : ℕ) → isSize n ≡ true → areBytes (numberBytes n) ≡ true
+unfolding areBytes
 number-bytes n e =
     let h : n < 4294967296 = ltb-true _ _ e in
     rw (lt-ltb (n % 256) 256 (omega arith), lt-ltb (n / 256 % 256) 256 (omega arith), lt-ltb (n / 65536 % 256) 256 (omega arith), lt-ltb (n / 16777216) 256 (omega arith))
 
 -- a state that code can hold has the lengths of the arrays
 pub held-shaped : (s : CacheState) → fitsTypes s ≡ true → Shaped s
-unfolding fitsTypes hasLengths
-held-shaped s e =
-    let l : List Bool = eqb (length (s .slots)) slotCount ∷ eqb (length (s .logical)) files ∷ eqb (length (s .floor)) files ∷ [] in
-    let t : allOf l ≡ true = and-left (allOf l) _ e in
-    record { slots = eqb-true _ _ (allOf-at l t 0); logical = eqb-true _ _ (allOf-at l t 1); floor = eqb-true _ _ (allOf-at l t 2) }
+unfolding fitsTypes
+held-shaped s e = let l = lengths-are s (and-left (hasLengths s) _ e) in record { slots = l .0; logical = l .1; floor = l .2 }
 
 -- and its bytes are bytes
 pub held-bytes : (s : CacheState) → fitsTypes s ≡ true → isState (encode s) ≡ true
-unfolding isState encode fitsTypes
+unfolding areBytes isState encode fitsTypes
 held-bytes s e =
     let h : List Bool = hasLengths s ∷ isByte (s .mounted) ∷ every slotHeld (s .slots) ∷ every isSize (s .logical) ∷ every isSize (s .floor) ∷ [] in
     let slots : areBytes (joined slotBytes (s .slots)) ≡ true = bytes-joined slotBytes slotHeld (λ k held. held) (s .slots) (allOf-at h e 2) in

@@ -28,7 +28,7 @@ use Rattle.device.specs.Mounting as Mounting
 use Rattle.device.specs.Looking as Looking
 use Rattle.device.proofs.Sound.{down-sound}
 use Rattle.state_bytes.specs.Encoding.{stateBytes, encode}
-use Rattle.state_bytes.specs.Inverse.{Shaped}
+use Rattle.state_bytes.specs.Inverse.{Shaped, areBytes}
 use Rattle.state_bytes.specs.InPlace.{Lent, lent, lentOf, deviceIn, stateShape, onBytes, readBytes, lookCountBytes, lookSpanBytes}
 use Rattle.state_bytes.proofs.Inverse.{inverse}
 use Rattle.state_bytes.proofs.InPlace.{shaped}
@@ -39,7 +39,7 @@ use Rattle.model.specs.Run.Call.{read, look, write, truncate, sync, mount}
 use Rattle.model.specs.Run.Event.{call, powerLost}
 use Rattle.model.specs.View.{conditions, plan, limits}
 use Rattle.model.specs.Work.{Works}
-use Rattle.model.specs.Claims.{asItCame, Cut, Lasts, Answers, Demand1, Serves, Served, Demand2, Demand3}
+use Rattle.model.specs.Claims.{asItCame, Cut, Persists, Answers, Demand1, Serves, Served, Demand2, Demand3}
 use Rattle.model.specs.Format.{formatWrites, Formats, Format}
 use Rattle.model.specs.Demands.{Priced, Loses, Begins, PlainDemands}
 use Rattle.model.specs.States.{CrashState, ClosedForm}
@@ -49,7 +49,7 @@ use Rattle.model.proofs.Run.{in-every-run, weaker-runs}
 use Rattle.model.proofs.Refusals.{demand-1}
 use Rattle.model.proofs.Format.{format-claim}
 use Rattle.model.proofs.Claims as Model
-use Rattle.linked_claims.specs.LinkedStore.{areBytes, isState, onSlices, linkedDoes, linkedStore, LinkedDemands}
+use Rattle.linked_claims.specs.LinkedStore.{isState, onSlices, linkedDoes, linkedStore, LinkedDemands}
 use Rattle.linked_claims.proofs.Bytes.{held-shaped, held-bytes, sound-bytes, state-bytes}
 
 -- a reply with the state as bytes
@@ -172,15 +172,15 @@ module _ (P : ℕ) where
 
     module _ (hp : P ≤ 256) (hb : fileBytes P < 4294967296) where
       -- a sound state has bytes, and so has the down state
-      sound-lasts : (ws : List MediaWrite) (x : Device) → isSound P (x .media .sizes) (x .cache) ≡ true → Lasts Linked ws l (lentOf x)
-      sound-lasts ws x h = record { image = refl; shaped = sound-bytes P hp hb (x .media .sizes) (x .cache) h; intact = refl; reserve = omega arith }
+      sound-persists : (ws : List MediaWrite) (x : Device) → isSound P (x .media .sizes) (x .cache) ≡ true → Persists Linked ws l (lentOf x)
+      sound-persists ws x h = record { image = refl; shaped = sound-bytes P hp hb (x .media .sizes) (x .cache) h; intact = refl; remaining = omega arith }
 
-      down-lasts : (ws : List MediaWrite) (x : Device) → x .cache ≡ downState → Lasts Linked ws l (lentOf x)
-      down-lasts ws x h = sound-lasts ws x (rw h (down-sound P (x .media .sizes)))
+      down-persists : (ws : List MediaWrite) (x : Device) → x .cache ≡ downState → Persists Linked ws l (lentOf x)
+      down-persists ws x h = sound-persists ws x (rw h (down-sound P (x .media .sizes)))
 
-      lasts : (c : Call) → storeDoes P c (deviceIn l) .answer .number ≡ 0 ⊎ storeDoes P c (deviceIn l) .answer .number ≡ 9 → Lasts Linked (plan Linked c l) l (lentOf (after c))
-      lasts c (inl z) = sound-lasts (plan Linked c l) (after c) (demand-1 P c (deviceIn l) .is-done z .sound)
-      lasts c (inr z) = down-lasts (plan Linked c l) (after c) (ap (λ (x : Device). x .cache) (demand-1 P c (deviceIn l) .is-cut z .leaves))
+      persists : (c : Call) → storeDoes P c (deviceIn l) .answer .number ≡ 0 ⊎ storeDoes P c (deviceIn l) .answer .number ≡ 9 → Persists Linked (plan Linked c l) l (lentOf (after c))
+      persists c (inl z) = sound-persists (plan Linked c l) (after c) (demand-1 P c (deviceIn l) .is-done z .sound)
+      persists c (inr z) = down-persists (plan Linked c l) (after c) (ap (λ (x : Device). x .cache) (demand-1 P c (deviceIn l) .is-cut z .leaves))
 
       answers : (c : Call) → Answers Linked c l (linkedDoes P c l)
       answers c =
@@ -208,7 +208,7 @@ module _ (P : ℕ) where
                       (subst (λ (r : Reply Device). Works P c (deviceIn l) (l .media) (length (plan (store P) c (deviceIn l))) r) (sym (said-reply c)) (x .work));
                 };
             pages = refl;
-            lasts = lasts c;
+            persists = persists c;
           })
 
   module _ (hp : P ≤ 256) (hb : fileBytes P < 4294967296) where
@@ -226,7 +226,7 @@ module _ (P : ℕ) where
           is-cut = λ z. absurd (omega arith);
           is-done = λ z. absurd (omega arith);
           pages = refl;
-          lasts = λ z. elim z [
+          persists = λ z. elim z [
             | inl y ↦ absurd (omega arith)
             | inr y ↦ absurd (omega arith)
           ];
@@ -269,10 +269,10 @@ module _ (P : ℕ) where
     state-after c l e =
         let a = linked-1 c l in
         split-eq (linkedDoes P c l .answer .number) 0
-        (λ z. a .lasts (inl z) .shaped)
+        (λ z. a .persists (inl z) .shaped)
         (λ z.
         split-eq (linkedDoes P c l .answer .number) 9
-        (λ n. a .lasts (inr n) .shaped)
+        (λ n. a .persists (inr n) .shaped)
         (λ n. rw (a .unchanged z n) e))
 
     step-same : (w : World Linked) (e : Event Linked) → isState (w .device .state) ≡ true → world (step Linked w e) ≡ step (store P) (world w) (event e)
@@ -350,7 +350,7 @@ module _ (P : ℕ) where
     begins = record {
       blank = blank;
       pages = refl;
-      reserve = omega arith;
+      remaining = omega arith;
       frames = refl;
       empty = λ f hf. Model.empty-files P f;
       budget = Model.enough P;
@@ -361,12 +361,12 @@ module _ (P : ℕ) where
 
     loses : (l : Lent) → Loses Linked l
     loses l = record {
-      lasting = λ x. refl;
+      persistent = λ x. refl;
       down = λ x. inverse .there-and-back downState down-shaped;
       pages = λ x. refl;
       shaped = λ x _. down-state;
       intact = λ x. refl;
-      reserve = λ x. refl;
+      remaining = λ x. refl;
       frames = λ frames. (frames, refl);
     }
 
@@ -396,7 +396,7 @@ module _ (P : ℕ) where
           leaves = λ z. b ∙ x .leaves z;
           empty = x .empty;
           pages = refl;
-          lasts = λ z. down-lasts l e hp hb (formatWrites Linked l) (r .device) (down z);
+          persists = λ z. down-persists l e hp hb (formatWrites Linked l) (r .device) (down z);
         })
 
     formats-other : (budget : ℕ) (l : Lent) → isState (l .state) ≡ false → Linked .formats budget l ≡ record { answer = SHAPE; output = []; device = l }
@@ -415,7 +415,7 @@ module _ (P : ℕ) where
           leaves = λ z. absurd (omega arith);
           empty = λ z. absurd (omega arith);
           pages = refl;
-          lasts = λ z. elim z [
+          persists = λ z. elim z [
             | inl y ↦ absurd (omega arith)
             | inr y ↦ absurd (omega arith)
           ];
@@ -438,7 +438,7 @@ module _ (P : ℕ) where
         demand3 = linked-3;
       };
       pages = λ l. refl;
-      lasting = λ l. refl;
+      persistent = λ l. refl;
       intact = λ l. refl;
       any = λ d h. (lentOf d, back d (held-shaped (d .cache) h), held-bytes (d .cache) h);
     }

@@ -6,7 +6,6 @@ use mathlib.Core.List.{List, []}
 use lib.Dec.{eqb}
 use lib.ListN.{length}
 use Rattle.answer.specs.Coded.{SHAPE}
-use Rattle.scan.specs.Scan.{every}
 use Rattle.media.specs.Geometry.{pagesPerFile}
 use Rattle.device.specs.Device.{downState}
 use Rattle.device.specs.Admission.{Result}
@@ -16,15 +15,13 @@ use Rattle.device.specs.Truncating as Truncating
 use Rattle.device.specs.Syncing as Syncing
 use Rattle.device.specs.Mounting as Mounting
 use Rattle.state_bytes.specs.Encoding.{stateBytes, encode}
+use Rattle.state_bytes.specs.Inverse.{areBytes}
 use Rattle.state_bytes.specs.InPlace.{Lent, lent, deviceIn, onBytes, readBytes, lookCountBytes, lookSpanBytes}
 use Rattle.model.specs.Run.{Call, Reply, Interface}
 use Rattle.model.specs.Run.Call.{read, look, write, truncate, sync, mount}
 use Rattle.model.specs.Claims.{asItCame}
 use Rattle.model.specs.Store.{silent}
-use Rattle.model.specs.Demands.{isByte, PlainDemands}
-
-abbrev pub areBytes : List ℕ → Bool
-areBytes xs = every isByte xs
+use Rattle.model.specs.Demands.{PlainDemands}
 
 -- the bytes of some state
 unfoldable pub isState : List ℕ → Bool
@@ -59,11 +56,11 @@ module _ (P : ℕ) where
     lose = λ frames l. lent (l .media) frames (encode downState);
     pages = λ l. P;
     image = deviceIn;
-    lasting = λ l. l .media;
+    persistent = λ l. l .media;
     isShaped = λ l. isState (l .state);
     isIntact = λ l. true;
     cost = λ l ws. length ws;
-    reserve = λ l. 0;
+    remaining = λ l. 0;
     takes = λ l ws. 0;
   }
 

@@ -73,9 +73,7 @@ module _ (P : ℕ) where
   everywhere Q at = in-every-run (store P) Holds start-holds keeps Q at
 
   known : (w : World (store P)) → Holds w → (f : ℕ) → Usable (store P) (w .device) f → ByLog (store P) w f
-  known w inv f (up, frames, hf) =
-      let x = by-log P (w .device) (w .files) inv up frames f hf in
-      record { cached = x .cached; logical = x .logical; floor = x .floor; writes = x .writes; room = x .room }
+  known w inv f (up, frames, hf) = by-log P (w .device) (w .files) inv up frames f hf
 
   -- where a write stops, by the model files after it
   stops : (w : World (store P)) → Holds w → (f position : ℕ) (bytes : List ℕ) → Usable (store P) (w .device) f →
@@ -154,7 +152,7 @@ module _ (P : ℕ) where
   begins = record {
     blank = empty;
     pages = refl;
-    reserve = omega arith;
+    remaining = omega arith;
     frames = refl;
     empty = λ f hf. empty-files f;
     budget = enough;
@@ -163,12 +161,12 @@ module _ (P : ℕ) where
 
   pub loses : (d : Device) → Loses (store P) d
   loses d = record {
-    lasting = λ x. refl;
+    persistent = λ x. refl;
     down = λ x. refl;
     pages = λ x. refl;
     shaped = λ x _. refl;
     intact = λ x. refl;
-    reserve = λ x. refl;
+    remaining = λ x. refl;
     frames = λ frames. (frames, refl);
   }
 
@@ -191,7 +189,7 @@ module _ (P : ℕ) where
       demand3 = demand-3;
     };
     pages = λ d. refl;
-    lasting = λ d. refl;
+    persistent = λ d. refl;
     intact = λ d. refl;
     any = λ d h. (d, refl, refl);
   }

@@ -18,7 +18,7 @@ use Rattle.model.specs.View.{mediaAfter}
 use Rattle.model.specs.Claims.{Cut}
 use Rattle.model.specs.Format.{Format}
 use Rattle.model.specs.Store.{store, silent}
-use Rattle.model.proofs.Refusals.{pays-budget, plain-lasts}
+use Rattle.model.proofs.Refusals.{pays-budget, plain-persists}
 
 pub format-claim : (P : ℕ) → Format (store P)
 unfolding format mediaShape
@@ -44,5 +44,5 @@ format-claim P budget d =
           (λ r. IsDone (r .answer) → (f : ℕ) → f < files → (sizeAt (r .left .media) f ≡ 0) × ((i : ℕ) → i < fileBytes P → byteAt P (r .left .media) f i ≡ 0))
           (λ k lo hi z. absurd (omega arith)) (λ l z. absurd (omega arith)) (λ l lb ls z f hf. format-done P (d .media) lb ls f hf);
       pages = refl;
-      lasts = λ _. plain-lasts P ws d (format P budget d .left);
+      persists = λ _. plain-persists P ws d (format P budget d .left);
     }

@@ -37,21 +37,14 @@ use Rattle.device.proofs.Looking.{look-by, looked-most, looked-length, looked-b
 use Rattle.model.specs.ModelFile.{ModelFile}
 use Rattle.model.specs.CacheByLog.{cachedIn, floorOf, syncByLog, cachedPages, roomFor}
 use Rattle.model.specs.Run.{IsDone, Files}
-use Rattle.model.specs.Store.{storeMedia}
+use Rattle.model.specs.Claims.{ByLog}
+use Rattle.model.specs.Store.{store, storeMedia}
 use Rattle.model.specs.Work.{Stops}
 use Rattle.model.proofs.ModelFile.{length-replay}
 use Rattle.model.proofs.Room.{one, countFrom, sum-same, sum-below, free-by-count}
 use Rattle.model.proofs.Invariant.{Mounted, Invariant, on-media-is}
 use Rattle.model.proofs.Syncs.{ready}
 use Rattle.model.proofs.SyncByLog.{plan-is}
-
--- what the model files say of the cache state
-pub record Known (P : ℕ) (d : Device) (f : ℕ) (fs : Files) : Type 0 where
-  pub cached : (q : ℕ) → isCached d f q ≡ cachedIn (fs f) q
-  pub logical : logicalAt d f ≡ length (fs f .current)
-  pub floor : floorAt d f ≡ floorOf (fs f)
-  pub writes : syncPlan P d f ≡ syncByLog P (fs f) f
-  pub room : (position : ℕ) (bytes : List ℕ) → hasRoom d f position bytes ≡ roomFor P fs f position bytes
 
 -- a write that is done puts down all bytes, or stops where there is no room for the rest
 pub write-ends : (P : ℕ) (d : Device) (f position : ℕ) (bytes : List ℕ) → let r : Result Device = write P f position bytes d in
@@ -167,7 +160,7 @@ module _ (P : ℕ) (d : Device) (fs : Files) (inv : Invariant P d fs) where
       rw (inv .mounted up f hf .cached (position / pageBytes), free-is up)
       (cases (cachedIn (fs f) (position / pageBytes)) (λ e. rw e) (λ e. rw e))
 
-  pub by-log : d .cache .mounted ≡ 1 → length (d .frames) ≡ framesBytes → (f : ℕ) → f < files → Known P d f fs
+  pub by-log : d .cache .mounted ≡ 1 → length (d .frames) ≡ framesBytes → (f : ℕ) → f < files → ByLog (store P) (record { device = d; files = fs }) f
   unfolding file
   by-log up frames f hf = record {
     cached = inv .mounted up f hf .cached;

@@ -33,7 +33,7 @@ use Rattle.device.proofs.Mounting.{mount-by}
 use Rattle.model.specs.Run.{Call, IsDone, Reply}
 use Rattle.model.specs.Run.Call.{read, look, write, truncate, sync, mount}
 use Rattle.model.specs.View.{sameBytes, sameMedia, onFile, conditions, plan, Pays, mediaAfter, limits}
-use Rattle.model.specs.Claims.{asItCame, isIdle, Lasts, Cut, Demand1}
+use Rattle.model.specs.Claims.{asItCame, isIdle, Persists, Cut, Demand1}
 use Rattle.model.specs.Store.{keeping, silent, storeDoes, store}
 use Rattle.model.proofs.Mounts.{done-fit}
 use Rattle.model.proofs.Work.{admitted-fit, works}
@@ -170,8 +170,8 @@ module _ (P : ℕ) where
   idle (sync f budget) d e = absurd (false≢true e)
   idle (mount budget) d e = absurd (false≢true e)
 
-  pub plain-lasts : (ws : List MediaWrite) (d e : Device) → Lasts (store P) ws d e
-  plain-lasts ws d e = record { image = refl; shaped = refl; intact = refl; reserve = omega arith }
+  pub plain-persists : (ws : List MediaWrite) (d e : Device) → Persists (store P) ws d e
+  plain-persists ws d e = record { image = refl; shaped = refl; intact = refl; remaining = omega arith }
 
   pub demand-1 : Demand1 (store P)
   demand-1 c d =
@@ -186,5 +186,5 @@ module _ (P : ℕ) where
         is-done = λ z.
             let e = l .ends z in record { stored = e .stored; mounted = e .mounted; sound = e .sound; frames = frames-kept c d; work = works P c d z };
         pages = refl;
-        lasts = λ _. plain-lasts (plan (store P) c d) d (storeDoes P c d .device);
+        persists = λ _. plain-persists (plan (store P) c d) d (storeDoes P c d .device);
       }

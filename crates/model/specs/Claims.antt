@@ -53,7 +53,7 @@ pub record Done (I : Interface) (c : Call) (s : I .State) (r : Reply (I .State))
   pub mounted : I .image (r .device) .cache .mounted ≡ 1
   pub sound : isSound (I .pages s) (I .image (r .device) .media .sizes) (I .image (r .device) .cache) ≡ true
   pub frames : length (I .image (r .device) .frames) ≡ length (I .image s .frames)
-  pub work : Works (I .pages s) c (I .image s) (I .lasting s) (I .cost s (plan I c s)) (imaged I r)
+  pub work : Works (I .pages s) c (I .image s) (I .persistent s) (I .cost s (plan I c s)) (imaged I r)
 
 -- CUT, of a call with these media writes: as many first ones are done as the budget pays for, the answer counts the budget, and the device
 -- is down. Power lost inside a call is a budget that ends there, so what each budget leaves shows the order of the media writes, and
@@ -65,11 +65,11 @@ pub record Cut (I : Interface) (ws : List MediaWrite) (s : I .State) (r : Reply 
 
 -- done or cut: what outlasts the power is the media of the image, it is whole, and what it runs out of gets less by no more than the media
 -- writes take
-pub record Lasts (I : Interface) (ws : List MediaWrite) (s after : I .State) : Type 0 where
-  pub image : I .lasting after ≡ I .image after .media
+pub record Persists (I : Interface) (ws : List MediaWrite) (s after : I .State) : Type 0 where
+  pub image : I .persistent after ≡ I .image after .media
   pub shaped : I .isShaped after ≡ true
   pub intact : I .isIntact after ≡ true
-  pub reserve : I .reserve s ≤ I .reserve after + I .takes s ws
+  pub remaining : I .remaining s ≤ I .remaining after + I .takes s ws
 
 -- what a call gives, and what it leaves
 pub record Answers (I : Interface) (c : Call) (s : I .State) (r : Reply (I .State)) : Type 0 where
@@ -83,7 +83,7 @@ pub record Answers (I : Interface) (c : Call) (s : I .State) (r : Reply (I .Stat
   pub is-cut : r .answer .number ≡ 9 → Cut I (plan I c s) s r
   pub is-done : IsDone (r .answer) → Done I c s r
   pub pages : I .pages (r .device) ≡ I .pages s
-  pub lasts : r .answer .number ≡ 0 ⊎ r .answer .number ≡ 9 → Lasts I (plan I c s) s (r .device)
+  pub persists : r .answer .number ≡ 0 ⊎ r .answer .number ≡ 9 → Persists I (plan I c s) s (r .device)
 
 -- DEMAND 1, but for format: of any call in any state
 abbrev pub Demand1 : Interface → Type 0

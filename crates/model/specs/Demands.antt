@@ -11,6 +11,7 @@ use lib.Dec.{ltb}
 use lib.ListN.{length, take}
 use Rattle.answer.specs.Coded.{done}
 use Rattle.answer.specs.Admission.{firstRefusal}
+use Rattle.memory.specs.Bytes.{isByte}
 use Rattle.media.specs.Geometry.{files}
 use Rattle.media.specs.Write.{MediaWrite}
 use Rattle.scan.specs.Scan.{allOf, every}
@@ -31,12 +32,12 @@ pub record Priced (I : Interface) (price rate : ℕ) (s : I .State) (ws : List M
 
 -- lost power leaves what outlasts it, the device down, and any bytes in the page frames
 pub record Loses (I : Interface) (s : I .State) : Type 0 where
-  pub lasting : (x : I .Loss) → I .lasting (I .lose x s) ≡ I .lasting s
+  pub persistent : (x : I .Loss) → I .persistent (I .lose x s) ≡ I .persistent s
   pub down : (x : I .Loss) → I .image (I .lose x s) .cache ≡ downState
   pub pages : (x : I .Loss) → I .pages (I .lose x s) ≡ I .pages s
   pub shaped : (x : I .Loss) → I .isShaped s ≡ true → I .isShaped (I .lose x s) ≡ true
   pub intact : (x : I .Loss) → I .isIntact (I .lose x s) ≡ I .isIntact s
-  pub reserve : (x : I .Loss) → I .reserve (I .lose x s) ≡ I .reserve s
+  pub remaining : (x : I .Loss) → I .remaining (I .lose x s) ≡ I .remaining s
   pub frames : (bytes : List ℕ) → (x : I .Loss) × (I .image (I .lose x s) .frames ≡ bytes)
 
 -- some device of P pages in a file, with eight empty files and page frames of their length, mounts, with `supply` of what it runs out of.
@@ -44,14 +45,11 @@ pub record Loses (I : Interface) (s : I .State) : Type 0 where
 pub record Begins (I : Interface) (P supply : ℕ) : Type 0 where
   pub blank : I .State
   pub pages : I .pages blank ≡ P
-  pub reserve : supply ≤ I .reserve blank
+  pub remaining : supply ≤ I .remaining blank
   pub frames : length (I .image blank .frames) ≡ framesBytes
   pub empty : (f : ℕ) → f < files → onMedia I blank f ≡ []
   pub budget : ℕ
   pub mounts : IsDone (I .does (mount budget) blank .answer)
-
-abbrev pub isByte : ℕ → Bool
-isByte n = ltb n 256
 
 abbrev pub isSize : ℕ → Bool
 isSize n = ltb n 4294967296
@@ -67,11 +65,11 @@ fitsTypes s =
     ∷ every isSize (s .floor)
     ∷ [])
 
--- any page frames and any cache state may come with what lasts
+-- any page frames and any cache state may come with what persists
 abbrev pub AnyCache : (I : Interface) → I .State → Type 0
 AnyCache I s =
     (bytes : List ℕ) (c : CacheState) → fitsTypes c ≡ true → I .isShaped s ≡ true
-    → (t : I .State) × (I .image t ≡ deviceOf (I .image s .media) bytes c) × (I .lasting t ≡ I .lasting s) × (I .isShaped t ≡ true) × (I .isIntact t ≡ I .isIntact s)
+    → (t : I .State) × (I .image t ≡ deviceOf (I .image s .media) bytes c) × (I .persistent t ≡ I .persistent s) × (I .isShaped t ≡ true) × (I .isIntact t ≡ I .isIntact s)
 
 -- the demands of a store of P pages in a file. A part that never runs out has rate 0
 pub record Demands (P price rate supply : ℕ) (I : Interface) : Type 0 where
@@ -91,6 +89,6 @@ pub record Demands (P price rate supply : ℕ) (I : Interface) : Type 0 where
 pub record PlainDemands (P : ℕ) (I : Interface) : Type 0 where
   pub demands : Demands P 1 0 0 I
   pub pages : (s : I .State) → I .pages s ≡ P
-  pub lasting : (s : I .State) → I .lasting s ≡ I .image s .media
+  pub persistent : (s : I .State) → I .persistent s ≡ I .image s .media
   pub intact : (s : I .State) → I .isIntact s ≡ true
   pub any : (d : Device) → fitsTypes (d .cache) ≡ true → (s : I .State) × (I .image s ≡ d) × (I .isShaped s ≡ true)

@@ -11,12 +11,12 @@ use Rattle.device.specs.Device.{deviceOf, downState}
 use Rattle.device.specs.Mounting.{formatPlan}
 use Rattle.model.specs.Run.{IsDone, Reply, Interface}
 use Rattle.model.specs.View.{anew, mediaAfter, paying}
-use Rattle.model.specs.Claims.{Lasts, Cut}
+use Rattle.model.specs.Claims.{Persists, Cut}
 
 module _ (I : Interface) where
   -- its media writes
   abbrev pub formatWrites : I .State → List MediaWrite
-  formatWrites s = formatPlan (I .pages s) (I .lasting s)
+  formatWrites s = formatPlan (I .pages s) (I .persistent s)
 
   -- what a format gives
   pub record Formats (budget : ℕ) (s : I .State) (r : Reply (I .State)) : Type 0 where
@@ -31,7 +31,7 @@ module _ (I : Interface) where
         let m : Media = I .image (r .device) .media in
         (sizeAt m f ≡ 0) × ((i : ℕ) → i < fileBytes (I .pages s) → byteAt (I .pages s) m f i ≡ 0)
     pub pages : I .pages (r .device) ≡ I .pages s
-    pub lasts : r .answer .number ≡ 0 ⊎ r .answer .number ≡ 9 → Lasts I (formatWrites s) s (r .device)
+    pub persists : r .answer .number ≡ 0 ⊎ r .answer .number ≡ 9 → Persists I (formatWrites s) s (r .device)
 
   abbrev pub Format : Type 0
   Format = (budget : ℕ) (s : I .State) → Formats budget s (I .formats budget s)

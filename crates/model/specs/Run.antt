@@ -47,14 +47,14 @@ pub record Interface : Type 1 where
   -- media, page frames and cache state, as the calls find them
   pub image : State → Device
   -- the media that outlasts the power, with which a mount begins: that of the image, or what another part holds
-  pub lasting : State → Media
+  pub persistent : State → Media
   -- what is borrowed beside the image has its length; it is not damaged
   pub isShaped : State → Bool
   pub isIntact : State → Bool
   -- what media writes cost of a budget
   pub cost : State → List MediaWrite → ℕ
   -- what a part runs out of: how much of it there is still, and how much media writes take
-  pub reserve : State → ℕ
+  pub remaining : State → ℕ
   pub takes : State → List MediaWrite → ℕ
 
 -- a reply with the image for the state
@@ -66,7 +66,7 @@ abbrev pub fileOn : ℕ → Media → ℕ → List ℕ
 fileOn P m f = part (m .bytes) (fileStart P f) (sizeAt m f)
 
 abbrev pub onMedia : (I : Interface) → I .State → ℕ → List ℕ
-onMedia I s = fileOn (I .pages s) (I .lasting s)
+onMedia I s = fileOn (I .pages s) (I .persistent s)
 
 -- ---- the model files beside it
 

@@ -57,11 +57,11 @@ storeWith P calls = record {
   lose = storeLoses;
   pages = λ d. P;
   image = λ d. d;
-  lasting = λ d. d .media;
+  persistent = λ d. d .media;
   isShaped = λ d. true;
   isIntact = λ d. true;
   cost = λ d ws. length ws;
-  reserve = λ d. 0;
+  remaining = λ d. 0;
   takes = λ d ws. 0;
 }
 

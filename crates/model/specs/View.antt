@@ -46,7 +46,7 @@ module _ (I : Interface) where
       let d : Device = I .image s in
       test (I .isShaped s) SHAPE
       ∷ (deviceTests P (d .media) (d .frames)
-      ++ (test (I .isIntact s && sameMedia (d .media) (I .lasting s)) DAMAGED ∷ stateTests P (d .media .sizes) (d .cache) f range))
+      ++ (test (I .isIntact s && sameMedia (d .media) (I .persistent s)) DAMAGED ∷ stateTests P (d .media .sizes) (d .cache) f range))
 
   -- of mount and format, which make the image anew: no test of the page frames, of the image's content or of the cache state
   abbrev pub anew : I .State → List Test
@@ -58,7 +58,7 @@ module _ (I : Interface) where
   conditions (write f position bytes) s = onFile s f (leb (position + length bytes) (greatest s))
   conditions (truncate f n) s = onFile s f (leb n (greatest s))
   conditions (sync f budget) s = onFile s f true
-  conditions (mount budget) s = anew s ++ sizesFit (I .pages s) (I .lasting s)
+  conditions (mount budget) s = anew s ++ sizesFit (I .pages s) (I .persistent s)
 
   -- ---- media writes
 
@@ -68,7 +68,7 @@ module _ (I : Interface) where
   plan (write f position bytes) s = []
   plan (truncate f n) s = []
   plan (sync f budget) s = syncPlan (I .pages s) (I .image s) f
-  plan (mount budget) s = mountPlan (I .pages s) (I .lasting s)
+  plan (mount budget) s = mountPlan (I .pages s) (I .persistent s)
 
   -- the first k media writes fit the budget, the first k + 1 do not
   abbrev pub Pays : I .State → ℕ → List MediaWrite → ℕ → Type 0
@@ -76,13 +76,13 @@ module _ (I : Interface) where
 
   -- the media after these media writes
   abbrev pub mediaAfter : I .State → List MediaWrite → Media
-  mediaAfter s ws = applyAll (I .pages s) (I .lasting s) ws
+  mediaAfter s ws = applyAll (I .pages s) (I .persistent s) ws
 
   -- ---- the refusals that remain: NO ROOM where the first page of a write has no slot; a part that runs out; CUT where the budget is
   -- below the cost
 
   abbrev pub paying : I .State → List MediaWrite → ℕ → List Test
-  paying s ws budget = test (leb (I .takes s ws) (I .reserve s)) EXHAUSTED ∷ test (leb (I .cost s ws) budget) (CUT budget) ∷ []
+  paying s ws budget = test (leb (I .takes s ws) (I .remaining s)) EXHAUSTED ∷ test (leb (I .cost s ws) budget) (CUT budget) ∷ []
 
   abbrev pub limits : Call → I .State → List Test
   limits (read f position buffer) s = []

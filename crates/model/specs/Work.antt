@@ -85,7 +85,7 @@ abbrev pub Stops : (ℕ → List ℕ → Bool) → ℕ → List ℕ → ℕ → 
 Stops room position bytes n =
     (n ≡ length bytes) ⊎ ((0 < n) × (n < length bytes) × ((position + n) % pageBytes ≡ 0) × (room (position + n) (drop n bytes) ≡ false))
 
--- ---- the work, on a device of P pages in a file whose lasting media is m, where the media writes of the call have this cost
+-- ---- the work, on a device of P pages in a file whose persistent media is m, where the media writes of the call have this cost
 
 abbrev pub Works : ℕ → Call → Device → Media → ℕ → Reply Device → Type 0
 -- the count is what fits into the buffer before the file ends; past it the buffer stays as it was

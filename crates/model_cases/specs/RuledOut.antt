@@ -46,11 +46,11 @@ interface P does formats shaped cost takes =
       lose = storeLoses;
       pages = λ d. P;
       image = λ d. d;
-      lasting = λ d. d .media;
+      persistent = λ d. d .media;
       isShaped = shaped;
       isIntact = λ d. true;
       cost = cost;
-      reserve = λ d. 0;
+      remaining = λ d. 0;
       takes = λ d. takes;
     }
 

@@ -18,7 +18,7 @@ use Rattle.device.specs.declared.CacheState.{CacheState}
 use Rattle.device.specs.Device.{slotCount, freeSlot, downState, withSlots, withLogical, withFloor}
 use Rattle.device.specs.Sound.{hasLengths}
 use Rattle.state_bytes.specs.Encoding.{stateBytes, slotsAt, logicalAt, floorAt, slotBytes, numberBytes, joined, slotIn, numberIn, slotsIn, sizesIn, encode, decode, elementSet, slotSet, sizeSet}
-use Rattle.state_bytes.specs.Inverse.{Shaped, AreBytes}
+use Rattle.state_bytes.specs.Inverse.{Shaped, areBytes}
 use Rattle.state_bytes.proofs.Encoding.{length-joined, length-each, getD-each}
 use Rattle.state_bytes.proofs.Inverse.{inverse, length-encode}
 
@@ -166,7 +166,7 @@ module _ (s : CacheState) (h : Shaped s) where
 
 -- ---- changes of bytes
 
-module _ (bytes : List ℕ) (e : length bytes ≡ stateBytes) (small : AreBytes bytes) where
+module _ (bytes : List ℕ) (e : length bytes ≡ stateBytes) (small : areBytes bytes ≡ true) where
   -- by what the same change makes of the bytes of the state
   pub changed : (change : List ℕ → List ℕ) (s : CacheState) → Shaped s → change (encode (decode bytes)) ≡ encode s
       → (after : List ℕ) → after ≡ change bytes → decode after ≡ s

@@ -1,5 +1,6 @@
 -- The layout written and read is inverse.
 use mathlib.Core.Path.{_≡_, refl, ap, _∙_}
+use mathlib.Core.Bool.{true}
 use mathlib.Core.List.{List, [], _∷_, _++_, append-nil}
 use Prim.Native.Nat.{ℕ, suc, _+_, _*_, _/_, _%_, _≤_, _<_}
 use native.Mathlib.Nat.{add-assoc, add-comm, add-zero}
@@ -7,15 +8,17 @@ use native.Mathlib.Numerals.{add-one, unary-clauses}
 use native.Mathlib.Omega.{arith}
 use mir.Syntax.{w8}
 use mir.Val.{Fits}
-use lib.ListN.{length, getD, drop, length-append}
+use lib.ListN.{length, getD, drop, length-append, List·getD-eq-default}
 use lib.Seq.{drop-cons, drop-drop, take-add, take-all}
-use borrow.Author.Tests.{eq-eqb}
-use Rattle.memory.specs.Bytes.{part}
+use borrow.Author.Tests.{eq-eqb, ltb-true, lt-ltb}
+use Rattle.memory.specs.Bytes.{isByte, part}
+use Rattle.memory.proofs.Cases.{split-lt}
+use Rattle.scan.proofs.Scan.{every-at, every-all}
 use Rattle.media.specs.Geometry.{files}
 use Rattle.device.specs.declared.CacheState.{CacheState}
 use Rattle.device.specs.Device.{slotCount, freeSlot}
 use Rattle.state_bytes.specs.Encoding.{stateBytes, slotsAt, logicalAt, floorAt, slotBytes, numberBytes, joined, slotIn, numberIn, slotsIn, sizesIn, encode, decode}
-use Rattle.state_bytes.specs.Inverse.{Shaped, AreBytes, Inverse}
+use Rattle.state_bytes.specs.Inverse.{Shaped, areBytes, Inverse}
 use Rattle.state_bytes.proofs.Encoding.{length-joined, joined-at, joined-past, each-is, joined-each}
 
 -- ---- a state, written and read
@@ -104,9 +107,16 @@ module _ (s : CacheState) (h : Shaped s) where
 -- ---- bytes, read and written
 
 -- what code knows of a slice of bytes
-pub are-bytes : (xs : List ℕ) → ((i : ℕ) → Fits w8 (getD xs i 0)) → AreBytes xs
-unfolding AreBytes
-are-bytes xs h i = omega (arith, h i)
+pub are-bytes : (xs : List ℕ) → ((i : ℕ) → Fits w8 (getD xs i 0)) → areBytes xs ≡ true
+unfolding areBytes
+are-bytes xs h = every-all isByte xs 0 (λ i l. lt-ltb (getD xs i 0) 256 (omega (arith, h i)))
+
+pub byte-at : (xs : List ℕ) → areBytes xs ≡ true → (i : ℕ) → getD xs i 0 < 256
+unfolding areBytes
+byte-at xs e i =
+    split-lt i (length xs)
+    (λ h. ltb-true _ _ (every-at isByte xs 0 e i h))
+    (λ h. rw (List·getD-eq-default xs 0 h) (omega arith))
 
 module _ (bytes : List ℕ) (a : ℕ) where
   part-three : a + 3 ≤ length bytes → getD bytes a 0 ∷ getD bytes (a + 1) 0 ∷ getD bytes (a + 2) 0 ∷ [] ≡ part bytes a 3
@@ -148,7 +158,7 @@ pieces (b ∷ xs) k l m e =
     rw (add-comm 1 k, add-one, add-comm 1 (k + l), add-one, ← drop-drop l k xs, ← take-add l m (drop k xs), ← take-add k (l + m) xs)
     (ap (λ (r : List ℕ). b ∷ r) (take-all (k + (l + m)) xs (omega arith)))
 
-module _ (bytes : List ℕ) (e : length bytes ≡ stateBytes) (small : AreBytes bytes) where
+module _ (bytes : List ℕ) (e : length bytes ≡ stateBytes) (small : areBytes bytes ≡ true) where
   slots-there : joined slotBytes (slotsIn bytes) ≡ part bytes slotsAt 72
   unfolding slotsIn
   slots-there =
@@ -156,11 +166,12 @@ module _ (bytes : List ℕ) (e : length bytes ≡ stateBytes) (small : AreBytes 
       (λ k l. part-three bytes (slotsAt + 3 * k) (rw e (omega arith)))
 
   sizes-there : (a : ℕ) → a + 32 ≤ stateBytes → joined numberBytes (sizesIn bytes a) ≡ part bytes a 32
-  unfolding sizesIn AreBytes
+  unfolding sizesIn
   sizes-there a m =
+      let small-at : (i : ℕ) → getD bytes i 0 < 256 = byte-at bytes small in
       joined-each 4 numberBytes (λ f. numberIn bytes (a + 4 * f)) bytes a files
       (λ f l.
-      number-there _ _ _ _ (small _) (small _) (small _) (small _) ∙ part-four bytes (a + 4 * f) (rw e (omega arith)))
+      number-there _ _ _ _ (small-at _) (small-at _) (small-at _) (small-at _) ∙ part-four bytes (a + 4 * f) (rw e (omega arith)))
 
   there : encode (decode bytes) ≡ bytes
   unfolding decode encode

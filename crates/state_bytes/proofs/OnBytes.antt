@@ -33,7 +33,7 @@ use Rattle.device.proofs.Truncating.{truncate-by}
 use Rattle.device.proofs.Syncing.{sync-by}
 use Rattle.device.proofs.Mounting.{mount-by, format-by}
 use Rattle.state_bytes.specs.Encoding.{stateBytes, encode, decode}
-use Rattle.state_bytes.specs.Inverse.{Shaped, AreBytes}
+use Rattle.state_bytes.specs.Inverse.{Shaped, areBytes}
 use Rattle.state_bytes.specs.InPlace.{Lent, lent, deviceIn, lentOf, stateShape, lentTests, inBytes, onBytes, readBytes, lookCountBytes, lookSpanBytes}
 use Rattle.state_bytes.proofs.Inverse.{inverse, length-encode}
 
@@ -83,7 +83,7 @@ shape-refused state ts before r x e k =
 
 module _ (call : Device → Result Device) (l : Lent) where
   -- refused, with everything as it came
-  pub refused-on : (ts : List Test) (x : Refusal) → codedRefusal x ≡ firstRefusal (stateShape (l .state) ++ ts) (done 0) → AreBytes (l .state)
+  pub refused-on : (ts : List Test) (x : Refusal) → codedRefusal x ≡ firstRefusal (stateShape (l .state) ++ ts) (done 0) → areBytes (l .state) ≡ true
       → (codedRefusal x ≡ firstRefusal ts (done 0) → give (codedRefusal x) (deviceIn l) ≡ call (deviceIn l)) → give (codedRefusal x) l ≡ onBytes call l
   unfolding onBytes
   refused-on ts x e small k =
@@ -100,7 +100,7 @@ module _ (call : Device → Result Device) (l : Lent) where
     state-on d e = ap inBytes e ∙ length-on h
 
     -- with bytes that say the state
-    pub bytes-on : (m : Media) (frames state : List ℕ) → length state ≡ stateBytes → AreBytes state
+    pub bytes-on : (m : Media) (frames state : List ℕ) → length state ≡ stateBytes → areBytes state ≡ true
         → give a (deviceOf m frames (decode state)) ≡ call (deviceIn l) → give a (lent m frames state) ≡ onBytes call l
     bytes-on m frames state q small e =
         ap (λ (b : List ℕ). give a (lent m frames b)) (sym (inverse .back-and-there state q small)) ∙ state-on (deviceOf m frames (decode state)) e

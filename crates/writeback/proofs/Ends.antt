@@ -17,12 +17,12 @@ use Rattle.device.specs.Syncing.{syncPlan, syncedState, sync}
 use Rattle.device.proofs.Admission.{admit-refused}
 use Rattle.device.proofs.Plan.{plan-ends}
 use Rattle.state_bytes.specs.Encoding.{stateBytes, encode, decode}
-use Rattle.state_bytes.specs.Inverse.{AreBytes}
+use Rattle.state_bytes.specs.Inverse.{areBytes}
 use Rattle.state_bytes.specs.InPlace.{Lent, lent, deviceIn, lentTests, onBytes}
 use Rattle.state_bytes.proofs.OnBytes.{refused-on, state-on, bytes-on}
 
 module _ (P f budget : ℕ) (l : Lent) where
-  pub refused-ends : (x : Refusal) → codedRefusal x ≡ firstRefusal (lentTests P l f true) (done 0) → AreBytes (l .state)
+  pub refused-ends : (x : Refusal) → codedRefusal x ≡ firstRefusal (lentTests P l f true) (done 0) → areBytes (l .state) ≡ true
       → give (codedRefusal x) l ≡ onBytes (sync P f budget) l
   unfolding sync
   refused-ends x e small =
@@ -37,6 +37,6 @@ module _ (P f budget : ℕ) (l : Lent) where
     pub cut-ends : budget < n → give (CUT budget) (lent m (l .frames) (encode downState)) ≡ onBytes (sync P f budget) l
     cut-ends k = state-on (sync P f budget) l h (CUT budget) (deviceOf m (l .frames) downState) (rw (lt-ltb budget n k) at ends)
 
-    pub done-ends : n ≤ budget → (after : List ℕ) → length after ≡ stateBytes → AreBytes after → decode after ≡ syncedState (decode (l .state)) f
+    pub done-ends : n ≤ budget → (after : List ℕ) → length after ≡ stateBytes → areBytes after ≡ true → decode after ≡ syncedState (decode (l .state)) f
         → give (done n) (lent m (l .frames) after) ≡ onBytes (sync P f budget) l
     done-ends k after q small e = bytes-on (sync P f budget) l h (done n) m (l .frames) after q small (rw (le-ltb budget n k, ← e) at ends)

@@ -16,7 +16,7 @@ ghost use Prim.Native.Nat.{_+_, _≤_, _<_, _^_, ℕ, _/_, max};
 ghost use lib.ListN.{length, getD};
 ghost use lib.Dec.{leb};
 ghost use Rattle.answer.specs.Coded.{coded};
-ghost use Rattle.memory.specs.Bytes.{overwrite};
+ghost use Rattle.memory.specs.Bytes.{part, overwrite};
 ghost use Rattle.media.specs.Geometry.{files, fileBytes, mediaBytes, pageBytes, pagesPerFile};
 ghost use Rattle.media.specs.Write.{mediaOf};
 ghost use Rattle.scan.specs.Scan.{firstIndex};
@@ -25,7 +25,7 @@ ghost use Rattle.device.specs.Device.{freeWhere, withLogical, withSlots, device
 ghost use Rattle.device.specs.Admission.{give};
 ghost use Rattle.device.specs.Sound.{sizesIn};
 ghost use Rattle.device.specs.Sizes.{truncatedSizes, sizesAnswer, sizesAfter};
-ghost use Rattle.device.specs.Writing.{hasSlot, filledPage, cachePage, putPage, putPages, write};
+ghost use Rattle.device.specs.Writing.{hasSlot, blankPage, cachePage, putPage, putPages, write};
 ghost use Rattle.device.specs.Truncating.{pagesFrom, clearTail, withSizes, truncate};
 ghost use Rattle.state_bytes.specs.Encoding.{stateBytes, decode};
 ghost use Rattle.state_bytes.specs.InPlace.{lent, onBytes};
@@ -40,18 +40,13 @@ fn patch_frames(frames: &mut [u8], at: usize, bytes: &[u8])
     memory::copy(&mut frames[at..end], bytes);
 }
 
-// A page as it becomes cached: a blank one, overlaid with the bytes of the media below the floor.
-fn filled_page(media: &[u8], floor: usize, file: usize, page: usize, pages: usize) -> [u8; 256]
-    requires { ⌜ (fileBytes pages < 2 ^ 32) × (length (now media) ≡ mediaBytes pages) × (file < files) × (page < pages) ⌝ }
-    ensures { λ r. ⌜ ((stored frames : List ℕ) (c : CacheState) → floor ≡ getD (c .floor) file 0
-        → r ≡ filledPage pages (deviceOf (mediaOf (now (media .entry)) stored) frames c) file page) ⌝ }
+// A page as it becomes cached: a blank one, overlaid with its bytes below the floor.
+fn filled_page(live: &[u8]) -> [u8; 256]
+    ensures { λ r. ⌜ r ≡ overwrite blankPage 0 (now (live .entry)) ⌝ }
 {
-    let at = PAGE_BYTES * page;
-    let from = file * (PAGE_BYTES * pages) + at;
-    let end = from + number::min(PAGE_BYTES, number::saturating_sub(floor, at));
-    let mut bytes = [0u8; 256];
-    memory::copy(&mut bytes, &media[from..end]);
-    bytes
+    let mut page = [0u8; 256];
+    memory::copy(&mut page, live);
+    page
 }
 
 // A page is laid into the frame of slot k, in halves, which are short enough that the compiler copies them without a call.
@@ -63,6 +58,26 @@ fn put_frame(frames: &mut [u8], k: usize, page: &[u8])
     let half = PAGE_BYTES / 2;
     patch_frames(frames, at, &page[..half]);
     patch_frames(frames, at + half, &page[half..]);
+}
+
+// The page of the media from `from` on, with its first `live` bytes, goes into the frame of slot k. Where all of them are live, or
+// none, its length is fixed, and the compiler keeps it out of memory.
+fn fill_frame(media: &[u8], frames: &mut [u8], k: usize, from: usize, live: usize)
+    requires { ⌜ (length (now frames) ≡ framesBytes) × (k < slotCount) × (live ≤ pageBytes) × (from + pageBytes ≤ length (now media)) × (length (now media) < 2 ^ 32) ⌝ }
+    ensures { λ r. ⌜ now (frames .exit) ≡ overwrite (now (frames .entry)) (frameStart k) (overwrite blankPage 0 (part (now (media .entry)) from live)) ⌝ }
+{
+    if live == PAGE_BYTES {
+        let page = filled_page(&media[from..from + PAGE_BYTES]);
+        patch_frames(frames, PAGE_BYTES * k, &page);
+        return;
+    }
+    if live == 0 {
+        let page = [0u8; 256];
+        patch_frames(frames, PAGE_BYTES * k, &page);
+        return;
+    }
+    let page = filled_page(&media[from..from + live]);
+    put_frame(frames, k, &page);
 }
 
 // A page becomes cached, in slot k, the first that is free.
@@ -81,8 +96,10 @@ fn cache_page(
         ≡ cachePage pages file page (deviceOf (mediaOf (now (media .entry)) stored) (now (frames .entry)) (decode (now (state .entry))))) ⌝ }
 {
     let floor = state_bytes::floor_at(state, file) as usize;
-    let bytes = filled_page(media, floor, file, page, pages);
-    put_frame(frames, k, &bytes);
+    let at = PAGE_BYTES * page;
+    let from = file * (PAGE_BYTES * pages) + at;
+    let live = number::min(PAGE_BYTES, number::saturating_sub(floor, at));
+    fill_frame(media, frames, k, from, live);
     let slot = Slot {
         used: 1,
         file: file as u8,
