@@ -172,15 +172,15 @@ module _ (P : ℕ) where
 
     module _ (hp : P ≤ 256) (hb : fileBytes P < 4294967296) where
       -- a sound state has bytes, and so has the down state
-      sound-persists : (ws : List MediaWrite) (x : Device) → isSound P (x .media .sizes) (x .cache) ≡ true → Persists Linked ws l (lentOf x)
-      sound-persists ws x h = record { image = refl; shaped = sound-bytes P hp hb (x .media .sizes) (x .cache) h; intact = refl; remaining = omega arith }
+      sound-persists : (x : Device) → isSound P (x .media .sizes) (x .cache) ≡ true → Persists Linked (lentOf x)
+      sound-persists x h = record { image = refl; shaped = sound-bytes P hp hb (x .media .sizes) (x .cache) h; intact = refl }
 
-      down-persists : (ws : List MediaWrite) (x : Device) → x .cache ≡ downState → Persists Linked ws l (lentOf x)
-      down-persists ws x h = sound-persists ws x (rw h (down-sound P (x .media .sizes)))
+      down-persists : (x : Device) → x .cache ≡ downState → Persists Linked (lentOf x)
+      down-persists x h = sound-persists x (rw h (down-sound P (x .media .sizes)))
 
-      persists : (c : Call) → storeDoes P c (deviceIn l) .answer .number ≡ 0 ⊎ storeDoes P c (deviceIn l) .answer .number ≡ 9 → Persists Linked (plan Linked c l) l (lentOf (after c))
-      persists c (inl z) = sound-persists (plan Linked c l) (after c) (demand-1 P c (deviceIn l) .is-done z .sound)
-      persists c (inr z) = down-persists (plan Linked c l) (after c) (ap (λ (x : Device). x .cache) (demand-1 P c (deviceIn l) .is-cut z .leaves))
+      persists : (c : Call) → storeDoes P c (deviceIn l) .answer .number ≡ 0 ⊎ storeDoes P c (deviceIn l) .answer .number ≡ 9 → Persists Linked (lentOf (after c))
+      persists c (inl z) = sound-persists (after c) (demand-1 P c (deviceIn l) .is-done z .sound)
+      persists c (inr z) = down-persists (after c) (ap (λ (x : Device). x .cache) (demand-1 P c (deviceIn l) .is-cut z .leaves))
 
       answers : (c : Call) → Answers Linked c l (linkedDoes P c l)
       answers c =
@@ -195,7 +195,7 @@ module _ (P : ℕ) where
             is-cut = λ z.
                 let x = a .is-cut z in
                 subst (λ (ws : List MediaWrite). Cut Linked ws l (asBytes (storeDoes P c (deviceIn l)))) (plan-same c)
-                (record { writes = x .writes; pays = x .pays; leaves = said c ∙ x .leaves });
+                (record { writes = x .writes; pays = x .pays; leaves = said c ∙ x .leaves; rest = x .rest; taken = x .taken });
             is-done = λ z.
                 let x = a .is-done z in
                 record {
@@ -206,9 +206,11 @@ module _ (P : ℕ) where
                   work =
                       subst (λ (ws : List MediaWrite). Works P c (deviceIn l) (l .media) (length ws) (imaged Linked (asBytes (storeDoes P c (deviceIn l))))) (plan-same c)
                       (subst (λ (r : Reply Device). Works P c (deviceIn l) (l .media) (length (plan (store P) c (deviceIn l))) r) (sym (said-reply c)) (x .work));
+                  taken = refl;
                 };
             pages = refl;
             persists = persists c;
+            untouched = λ none. a .untouched (plan-same c ∙ none);
           })
 
   module _ (hp : P ≤ 256) (hb : fileBytes P < 4294967296) where
@@ -230,6 +232,7 @@ module _ (P : ℕ) where
             | inl y ↦ absurd (omega arith)
             | inr y ↦ absurd (omega arith)
           ];
+          untouched = λ _. refl;
         })
       where
         shape-first : (c : Call) → SHAPE ≡ firstRefusal (conditions Linked c l ++ limits Linked c l) (done 0)
@@ -361,19 +364,12 @@ module _ (P : ℕ) where
 
     loses : (l : Lent) → Loses Linked l
     loses l = record {
-      persistent = λ x. refl;
+      part = λ x. refl;
       down = λ x. inverse .there-and-back downState down-shaped;
       pages = λ x. refl;
       shaped = λ x _. down-state;
-      intact = λ x. refl;
-      remaining = λ x. refl;
       frames = λ frames. (frames, refl);
     }
-
-    -- each media write costs one
-    priced : (l : Lent) (ws : List MediaWrite) → Priced Linked 1 0 l ws
-    priced l ws =
-        record { rises = λ k h. omega (arith, length-take k ws, length-take (suc k) ws); bounded = λ k h. omega (arith, length-take k ws); taken = omega arith }
 
     -- ---- format
 
@@ -392,11 +388,13 @@ module _ (P : ℕ) where
           in-order = rw e (x .in-order);
           silent = refl;
           unchanged = λ z n. ap lentOf (x .unchanged z n) ∙ there l e;
-          is-cut = λ z. let y = x .is-cut z in record { writes = y .writes; pays = y .pays; leaves = b ∙ y .leaves };
+          is-cut = λ z. let y = x .is-cut z in record { writes = y .writes; pays = y .pays; leaves = b ∙ y .leaves; rest = y .rest; taken = y .taken };
           leaves = λ z. b ∙ x .leaves z;
           empty = x .empty;
           pages = refl;
-          persists = λ z. down-persists l e hp hb (formatWrites Linked l) (r .device) (down z);
+          taken = λ _. refl;
+          persists = λ z. down-persists l e hp hb (r .device) (down z);
+          untouched = x .untouched;
         })
 
     formats-other : (budget : ℕ) (l : Lent) → isState (l .state) ≡ false → Linked .formats budget l ≡ record { answer = SHAPE; output = []; device = l }
@@ -415,10 +413,12 @@ module _ (P : ℕ) where
           leaves = λ z. absurd (omega arith);
           empty = λ z. absurd (omega arith);
           pages = refl;
+          taken = λ _. refl;
           persists = λ z. elim z [
             | inl y ↦ absurd (omega arith)
             | inr y ↦ absurd (omega arith)
           ];
+          untouched = λ _. refl;
         }))
 
     -- ---- all together
@@ -428,17 +428,17 @@ module _ (P : ℕ) where
       demands = record {
         begins = begins;
         any-cache = λ l bytes c h _.
-            let x : Device = deviceOf (l .media) bytes c in (lentOf x, back x (held-shaped c h), refl, held-bytes c h, refl);
+            let x : Device = deviceOf (l .media) bytes c in (lentOf x, back x (held-shaped c h), refl, refl, held-bytes c h);
         loses = loses;
-        priced = λ c l _. priced l (plan Linked c l);
-        format-priced = λ l _. priced l (formatWrites Linked l);
+        priced = λ c l _. Model.priced Linked (λ m ws. refl) (λ m ws. refl) (l .media) (plan Linked c l);
+        format-priced = λ l _. Model.priced Linked (λ m ws. refl) (λ m ws. refl) (l .media) (formatWrites Linked l);
         demand1 = linked-1;
         format = linked-format;
         demand2 = linked-2;
         demand3 = linked-3;
       };
       pages = λ l. refl;
-      persistent = λ l. refl;
+      media = λ l. refl;
       intact = λ l. refl;
       any = λ d h. (lentOf d, back d (held-shaped (d .cache) h), held-bytes (d .cache) h);
     }

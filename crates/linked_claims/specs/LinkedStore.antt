@@ -7,6 +7,7 @@ use lib.Dec.{eqb}
 use lib.ListN.{length}
 use Rattle.answer.specs.Coded.{SHAPE}
 use Rattle.media.specs.Geometry.{pagesPerFile}
+use Rattle.media.specs.Write.{Media}
 use Rattle.device.specs.Device.{downState}
 use Rattle.device.specs.Admission.{Result}
 use Rattle.device.specs.Looking.{spanBytes}
@@ -56,12 +57,14 @@ module _ (P : ℕ) where
     lose = λ frames l. lent (l .media) frames (encode downState);
     pages = λ l. P;
     image = deviceIn;
-    persistent = λ l. l .media;
     isShaped = λ l. isState (l .state);
-    isIntact = λ l. true;
-    cost = λ l ws. length ws;
-    remaining = λ l. 0;
-    takes = λ l ws. 0;
+    Part = Media;
+    partOf = λ l. l .media;
+    contents = λ m. m;
+    isIntact = λ m. true;
+    cost = λ m ws. length ws;
+    remaining = λ m. 0;
+    takes = λ m ws. 0;
   }
 
 -- the demands hold of the calls on bytes

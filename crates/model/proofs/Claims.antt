@@ -22,7 +22,7 @@ use Rattle.device.proofs.Admission.{Mountable}
 use Rattle.device.proofs.Writing.{write-kept}
 use Rattle.model.specs.ModelFile.{afterWrite, Becomes}
 use Rattle.model.specs.CacheByLog.{roomFor}
-use Rattle.model.specs.Run.{Call, IsDone, Reply, Files, change, World, Event, step, start, InEveryRun, AtMounts}
+use Rattle.model.specs.Run.{Call, IsDone, Reply, Interface, Files, change, World, Event, step, start, InEveryRun, AtMounts}
 use Rattle.model.specs.Run.Call.{read, look, write, truncate, sync, mount}
 use Rattle.model.specs.Run.Event.{call, powerLost}
 use Rattle.model.specs.View.{plan}
@@ -42,6 +42,15 @@ use Rattle.model.proofs.Truncates.{keeps-truncate}
 use Rattle.model.proofs.Syncs.{zero-not-one, keeps-sync}
 use Rattle.model.proofs.Mounts.{keeps-mount, starts, finds}
 use Rattle.model.proofs.Posix.{read-serves, look-serves, write-serves, write-ends, truncate-serves, sync-serves, sync-stores, mount-serves, by-log, mount-answer}
+
+-- each media write costs one, and nothing runs out
+pub priced : (I : Interface) → ((p : I .Part) (ws : List MediaWrite) → I .cost p ws ≡ length ws) → ((p : I .Part) (ws : List MediaWrite) → I .takes p ws ≡ 0)
+    → (p : I .Part) (ws : List MediaWrite) → Priced I 1 0 p ws
+priced I one none p ws = record {
+  rises = λ k h. omega (arith, one p (take k ws), one p (take (suc k) ws), length-take k ws, length-take (suc k) ws);
+  bounded = λ k h. omega (arith, one p (take k ws), length-take k ws);
+  taken = omega (arith, none p ws);
+}
 
 module _ (P : ℕ) where
   abbrev pub Holds : World (store P) → Type 0
@@ -161,19 +170,12 @@ module _ (P : ℕ) where
 
   pub loses : (d : Device) → Loses (store P) d
   loses d = record {
-    persistent = λ x. refl;
+    part = λ x. refl;
     down = λ x. refl;
     pages = λ x. refl;
     shaped = λ x _. refl;
-    intact = λ x. refl;
-    remaining = λ x. refl;
     frames = λ frames. (frames, refl);
   }
-
-  -- each media write costs one
-  pub priced : (d : Device) (ws : List MediaWrite) → Priced (store P) 1 0 d ws
-  priced d ws =
-      record { rises = λ k h. omega (arith, length-take k ws, length-take (suc k) ws); bounded = λ k h. omega (arith, length-take k ws); taken = omega arith }
 
   pub demands : PlainDemands P (store P)
   demands = record {
@@ -181,15 +183,15 @@ module _ (P : ℕ) where
       begins = begins;
       any-cache = λ d bytes c _ _. (deviceOf (d .media) bytes c, refl, refl, refl, refl);
       loses = loses;
-      priced = λ c d _. priced d (plan (store P) c d);
-      format-priced = λ d _. priced d (formatWrites (store P) d);
+      priced = λ c d _. priced (store P) (λ m ws. refl) (λ m ws. refl) (d .media) (plan (store P) c d);
+      format-priced = λ d _. priced (store P) (λ m ws. refl) (λ m ws. refl) (d .media) (formatWrites (store P) d);
       demand1 = demand-1 P;
       format = format-claim P;
       demand2 = demand-2;
       demand3 = demand-3;
     };
     pages = λ d. refl;
-    persistent = λ d. refl;
+    media = λ d. refl;
     intact = λ d. refl;
     any = λ d h. (d, refl, refl);
   }

@@ -1,9 +1,10 @@
 -- Demand 1 of format.
 use mathlib.Core.Path.{_≡_, refl, ap, _∙_}
 use mathlib.Core.Logic.{_≢_}
-use mathlib.Core.List.{List}
+use mathlib.Core.List.{List, []}
 use Prim.Native.Nat.{ℕ, _<_}
 use native.Mathlib.Omega.{arith}
+use lib.Seq.{take-nil}
 use Rattle.answer.specs.Admission.{firstRefusal}
 use Rattle.media.specs.Geometry.{files, fileBytes}
 use Rattle.media.specs.Write.{MediaWrite, byteAt, sizeAt}
@@ -18,7 +19,7 @@ use Rattle.model.specs.View.{mediaAfter}
 use Rattle.model.specs.Claims.{Cut}
 use Rattle.model.specs.Format.{Format}
 use Rattle.model.specs.Store.{store, silent}
-use Rattle.model.proofs.Refusals.{pays-budget, plain-persists}
+use Rattle.model.proofs.Refusals.{cut-at, plain-persists}
 
 pub format-claim : (P : ℕ) → Format (store P)
 unfolding format mediaShape
@@ -34,7 +35,7 @@ format-claim P budget d =
       is-cut =
           format-by P budget d (λ r. r .answer .number ≡ 9 → Cut (store P) (formatPlan P (d .media)) d (silent r))
           (λ k lo hi z. absurd (hi z))
-          (λ l z. record { writes = budget; pays = pays-budget P d ws budget l; leaves = refl })
+          (λ l z. cut-at P d ws budget [] l)
           (λ l lb ls z. absurd (omega arith));
       leaves =
           format-by P budget d (λ r. IsDone (r .answer) → r .left ≡ deviceOf (mediaAfter (store P) d (formatPlan P (d .media))) (d .frames) downState)
@@ -44,5 +45,8 @@ format-claim P budget d =
           (λ r. IsDone (r .answer) → (f : ℕ) → f < files → (sizeAt (r .left .media) f ≡ 0) × ((i : ℕ) → i < fileBytes P → byteAt P (r .left .media) f i ≡ 0))
           (λ k lo hi z. absurd (omega arith)) (λ l z. absurd (omega arith)) (λ l lb ls z f hf. format-done P (d .media) lb ls f hf);
       pages = refl;
-      persists = λ _. plain-persists P ws d (format P budget d .left);
+      taken = λ _. refl;
+      persists = λ _. plain-persists P (format P budget d .left);
+      untouched = λ none.
+          format-by P budget d (λ r. r .left .media ≡ d .media) (λ k lo hi. refl) (λ l. rw (none, take-nil)) (λ l lb ls. rw none);
     }

@@ -6,12 +6,14 @@ use mathlib.Core.List.{List, [], _∷_, _++_}
 use Prim.Native.Nat.{ℕ, suc, _+_, _<_}
 use native.Mathlib.Omega.{arith}
 use lib.Dec.{leb}
-use lib.ListN.{length, take, length-take}
+use lib.ListN.{length, take, length-take, length-drop}
+use lib.Seq.{take-nil}
 use borrow.Author.Tests.{eq-eqb, leb-true}
 use Rattle.answer.specs.Coded.{Coded, refused, done, NO-ROOM, CUT}
 use Rattle.answer.specs.Admission.{Test, test, firstRefusal}
 use Rattle.media.specs.Geometry.{fileBytes}
 use Rattle.media.specs.Write.{Media, MediaWrite}
+use Rattle.memory.proofs.Cases.{split-eq}
 use Rattle.device.specs.Device.{Device, deviceOf, downState}
 use Rattle.device.specs.Sound.{isSound}
 use Rattle.device.specs.Admission.{mediaShape, framesShape, sizesFit, stateTests, fileTests, mountTests}
@@ -32,7 +34,7 @@ use Rattle.device.proofs.Syncing.{sync-by, sync-frames, synced-fit}
 use Rattle.device.proofs.Mounting.{mount-by}
 use Rattle.model.specs.Run.{Call, IsDone, Reply}
 use Rattle.model.specs.Run.Call.{read, look, write, truncate, sync, mount}
-use Rattle.model.specs.View.{sameBytes, sameMedia, onFile, conditions, plan, Pays, mediaAfter, limits}
+use Rattle.model.specs.View.{sameBytes, sameMedia, onFile, conditions, plan, mediaAfter, limits}
 use Rattle.model.specs.Claims.{asItCame, isIdle, Persists, Cut, Demand1}
 use Rattle.model.specs.Store.{keeping, silent, storeDoes, store}
 use Rattle.model.proofs.Mounts.{done-fit}
@@ -79,8 +81,15 @@ module _ (P : ℕ) where
   -- ---- what a call leaves
 
   -- a budget pays for as many first media writes
-  pub pays-budget : (d : Device) (ws : List MediaWrite) (budget : ℕ) → budget < length ws → Pays (store P) d budget ws budget
-  pays-budget d ws budget short = (omega (arith, length-take budget ws), omega (arith, length-take (suc budget) ws))
+  pub cut-at : (d : Device) (ws : List MediaWrite) (budget : ℕ) (output : List ℕ) → budget < length ws
+      → Cut (store P) ws d (record { answer = CUT budget; output = output; device = deviceOf (mediaAfter (store P) d (take budget ws)) (d .frames) downState })
+  cut-at d ws budget output short = record {
+    writes = budget;
+    pays = (omega (arith, length-take budget ws), omega (arith, length-take (suc budget) ws));
+    leaves = refl;
+    rest = omega (arith, length-drop budget ws);
+    taken = omega arith;
+  }
 
   -- what is left to say of a done call
   pub record Ends (c : Call) (d e : Device) : Type 0 where
@@ -106,7 +115,7 @@ module _ (P : ℕ) where
   when-cut c d budget short = record {
     quiet = λ _. refl;
     unchanged = λ _ z. absurd (z refl);
-    is-cut = λ _. record { writes = budget; pays = pays-budget d (plan (store P) c d) budget short; leaves = refl };
+    is-cut = λ _. cut-at d (plan (store P) c d) budget (asItCame c) short;
     ends = λ z. absurd (omega arith);
   }
 
@@ -170,8 +179,17 @@ module _ (P : ℕ) where
   idle (sync f budget) d e = absurd (false≢true e)
   idle (mount budget) d e = absurd (false≢true e)
 
-  pub plain-persists : (ws : List MediaWrite) (d e : Device) → Persists (store P) ws d e
-  plain-persists ws d e = record { image = refl; shaped = refl; intact = refl; remaining = omega arith }
+  pub plain-persists : (d : Device) → Persists (store P) d
+  plain-persists d = record { image = refl; shaped = refl; intact = refl }
+
+  -- no media write leaves the media
+  untouched : (c : Call) (d : Device) (r : Reply Device) → Leaves c d r → plan (store P) c d ≡ [] → r .device .media ≡ d .media
+  untouched c d r l none =
+      split-eq (r .answer .number) 0
+      (λ z. rw none at (l .ends z .stored))
+      (λ n. split-eq (r .answer .number) 9
+      (λ z. let x = l .is-cut z in ap (λ (e : Device). e .media) (rw (none, take-nil) at (x .leaves)))
+      (λ m. ap (λ (e : Device). e .media) (l .unchanged n m)))
 
   pub demand-1 : Demand1 (store P)
   demand-1 c d =
@@ -184,7 +202,8 @@ module _ (P : ℕ) where
         idle = idle c d;
         is-cut = l .is-cut;
         is-done = λ z.
-            let e = l .ends z in record { stored = e .stored; mounted = e .mounted; sound = e .sound; frames = frames-kept c d; work = works P c d z };
+            let e = l .ends z in record { stored = e .stored; mounted = e .mounted; sound = e .sound; frames = frames-kept c d; work = works P c d z; taken = refl };
         pages = refl;
-        persists = λ _. plain-persists (plan (store P) c d) d (storeDoes P c d .device);
+        persists = λ _. plain-persists (storeDoes P c d .device);
+        untouched = untouched c d (storeDoes P c d) l;
       }

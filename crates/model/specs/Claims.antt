@@ -6,7 +6,7 @@ use mathlib.Core.Path.{_≡_}
 use mathlib.Core.Logic.{_≢_, _⊎_}
 use mathlib.Core.Bool.{Bool, true, false, cond}
 use mathlib.Core.List.{List, [], _∷_, _++_}
-use lib.ListN.{length, take}
+use lib.ListN.{length, take, drop}
 use Rattle.answer.specs.Coded.{done, NO-ROOM}
 use Rattle.answer.specs.Admission.{test, firstRefusal}
 use Rattle.memory.specs.Bytes.{zeros, part, overwrite}
@@ -19,7 +19,7 @@ use Rattle.device.specs.Syncing.{syncPlan}
 use Rattle.device.specs.Looking.{toPageEnd}
 use Rattle.model.specs.ModelFile.{ModelFile, afterWrite, Becomes}
 use Rattle.model.specs.CacheByLog.{cachedIn, floorOf, syncByLog, roomFor}
-use Rattle.model.specs.Run.{Call, IsDone, Reply, Interface, imaged, fileOn, Files, change, World, Event, InEveryRun, AtMounts}
+use Rattle.model.specs.Run.{Call, IsDone, Reply, Interface, persistent, imaged, fileOn, Files, change, World, Event, InEveryRun, AtMounts}
 use Rattle.model.specs.Run.Call.{read, look, write, truncate, sync, mount}
 use Rattle.model.specs.Run.Event.{call, powerLost}
 use Rattle.model.specs.View.{greatest, conditions, plan, Pays, mediaAfter, paying, limits}
@@ -47,34 +47,36 @@ isIdle (sync f budget) = false
 isIdle (mount budget) = false
 
 -- done: the whole media, bytes and sizes, is as the media writes of the call leave it, and no other call than sync and mount has any;
--- the device is mounted, its state sound, the page frames keep their length, and the work is done
+-- the device is mounted, its state sound, the page frames keep their length, the work is done, and what the part runs out of gets less by
+-- what the media writes take
 pub record Done (I : Interface) (c : Call) (s : I .State) (r : Reply (I .State)) : Type 0 where
   pub stored : I .image (r .device) .media ≡ mediaAfter I s (plan I c s)
   pub mounted : I .image (r .device) .cache .mounted ≡ 1
   pub sound : isSound (I .pages s) (I .image (r .device) .media .sizes) (I .image (r .device) .cache) ≡ true
   pub frames : length (I .image (r .device) .frames) ≡ length (I .image s .frames)
-  pub work : Works (I .pages s) c (I .image s) (I .persistent s) (I .cost s (plan I c s)) (imaged I r)
+  pub work : Works (I .pages s) c (I .image s) (persistent I s) (I .cost (I .partOf s) (plan I c s)) (imaged I r)
+  pub taken : I .remaining (I .partOf s) ≡ I .remaining (I .partOf (r .device)) + I .takes (I .partOf s) (plan I c s)
 
 -- CUT, of a call with these media writes: as many first ones are done as the budget pays for, the answer counts the budget, and the device
--- is down. Power lost inside a call is a budget that ends there, so what each budget leaves shows the order of the media writes, and
--- nothing else does
+-- is down. The rest of them would cost what the budget lacked: all that it paid for is done, a part of a media write too. Power lost
+-- inside a call is a budget that ends there, so what each budget leaves shows the order of the media writes, and nothing else does
 pub record Cut (I : Interface) (ws : List MediaWrite) (s : I .State) (r : Reply (I .State)) : Type 0 where
   pub writes : ℕ
-  pub pays : Pays I s (r .answer .count) ws writes
+  pub pays : Pays I (I .partOf s) (r .answer .count) ws writes
   pub leaves : I .image (r .device) ≡ deviceOf (mediaAfter I s (take writes ws)) (I .image s .frames) downState
+  pub rest : I .cost (I .partOf s) ws ≡ r .answer .count + I .cost (I .partOf (r .device)) (drop writes ws)
+  pub taken : I .remaining (I .partOf s) ≤ I .remaining (I .partOf (r .device)) + I .takes (I .partOf s) ws
 
--- done or cut: what outlasts the power is the media of the image, it is whole, and what it runs out of gets less by no more than the media
--- writes take
-pub record Persists (I : Interface) (ws : List MediaWrite) (s after : I .State) : Type 0 where
-  pub image : I .persistent after ≡ I .image after .media
+-- done or cut: what outlasts the power holds the media of the image, and is not damaged
+pub record Persists (I : Interface) (after : I .State) : Type 0 where
+  pub image : persistent I after ≡ I .image after .media
   pub shaped : I .isShaped after ≡ true
-  pub intact : I .isIntact after ≡ true
-  pub remaining : I .remaining s ≤ I .remaining after + I .takes s ws
+  pub intact : I .isIntact (I .partOf after) ≡ true
 
 -- what a call gives, and what it leaves
 pub record Answers (I : Interface) (c : Call) (s : I .State) (r : Reply (I .State)) : Type 0 where
-  -- the first refusal that applies, and done only where none does
   pub count : ℕ
+  -- the first refusal that applies, and done only where none does
   pub in-order : r .answer ≡ firstRefusal (conditions I c s ++ limits I c s) (done count)
   -- a refusal leaves the output as it came, and one other than CUT changes nothing
   pub silent : r .answer .number ≢ 0 → r .output ≡ asItCame c
@@ -83,7 +85,9 @@ pub record Answers (I : Interface) (c : Call) (s : I .State) (r : Reply (I .Stat
   pub is-cut : r .answer .number ≡ 9 → Cut I (plan I c s) s r
   pub is-done : IsDone (r .answer) → Done I c s r
   pub pages : I .pages (r .device) ≡ I .pages s
-  pub persists : r .answer .number ≡ 0 ⊎ r .answer .number ≡ 9 → Persists I (plan I c s) s (r .device)
+  pub persists : r .answer .number ≡ 0 ⊎ r .answer .number ≡ 9 → Persists I (r .device)
+  -- without a media write nothing that outlasts the power is touched
+  pub untouched : plan I c s ≡ [] → I .partOf (r .device) ≡ I .partOf s
 
 -- DEMAND 1, but for format: of any call in any state
 abbrev pub Demand1 : Interface → Type 0
@@ -124,14 +128,16 @@ module _ (I : Interface) where
   -- refused under its budget, or done with a count, by the media writes that the log says; done, the media holds the file exactly,
   -- bytes and size
   Serves (sync f budget) w r =
+      let p : I .Part = I .partOf (w .device) in
       let ws : List MediaWrite = syncByLog (I .pages (w .device)) (w .files f) f in
       Usable (w .device) f →
-      (r .answer ≡ firstRefusal (paying I (w .device) ws budget) (done (I .cost (w .device) ws)))
+      (r .answer ≡ firstRefusal (paying I p ws budget) (done (I .cost p ws)))
       × (IsDone (r .answer) → fileOn (I .pages (w .device)) (r .device .media) f ≡ w .files f .current)
   -- likewise by the media writes that the media asks for
   Serves (mount budget) w r =
+      let p : I .Part = I .partOf (w .device) in
       let ws : List MediaWrite = plan I (mount budget) (w .device) in
-      r .answer ≡ firstRefusal (paying I (w .device) ws budget) (done (I .cost (w .device) ws))
+      r .answer ≡ firstRefusal (paying I p ws budget) (done (I .cost p ws))
 
   -- the sizes and pages in the cache, the media writes of a sync and room for a write are what the model files say
   pub record ByLog (w : World I) (f : ℕ) : Type 0 where

@@ -10,7 +10,7 @@ use mathlib.Core.List.{List, [], _∷_}
 use lib.Dec.{ltb}
 use lib.ListN.{length, take}
 use Rattle.answer.specs.Coded.{done}
-use Rattle.answer.specs.Admission.{firstRefusal}
+use Rattle.answer.specs.Admission.{Test, firstRefusal}
 use Rattle.memory.specs.Bytes.{isByte}
 use Rattle.media.specs.Geometry.{files}
 use Rattle.media.specs.Write.{MediaWrite}
@@ -18,26 +18,25 @@ use Rattle.scan.specs.Scan.{allOf, every}
 use Rattle.device.specs.declared.CacheState.{CacheState}
 use Rattle.device.specs.Device.{Device, deviceOf, framesBytes, downState}
 use Rattle.device.specs.Sound.{hasLengths}
-use Rattle.model.specs.Run.{Call, IsDone, Interface, onMedia}
+use Rattle.model.specs.Run.{Call, IsDone, Interface, persistent, onMedia}
 use Rattle.model.specs.Run.Call.{mount}
 use Rattle.model.specs.View.{anew, conditions, plan}
 use Rattle.model.specs.Claims.{Demand1, Demand2, Demand3}
 use Rattle.model.specs.Format.{formatWrites, Format}
 
--- each of these media writes costs something, the first k at most price × k, and each takes at most `rate` of what a part runs out of
-pub record Priced (I : Interface) (price rate : ℕ) (s : I .State) (ws : List MediaWrite) : Type 0 where
-  pub rises : (k : ℕ) → k < length ws → I .cost s (take k ws) < I .cost s (take (suc k) ws)
-  pub bounded : (k : ℕ) → k ≤ length ws → I .cost s (take k ws) ≤ price * k
-  pub taken : I .takes s ws ≤ rate * length ws
+-- each of these media writes costs something, the first k at most price × k, and all of them take at most `rate` for each of what the part
+-- runs out of
+pub record Priced (I : Interface) (price rate : ℕ) (p : I .Part) (ws : List MediaWrite) : Type 0 where
+  pub rises : (k : ℕ) → k < length ws → I .cost p (take k ws) < I .cost p (take (suc k) ws)
+  pub bounded : (k : ℕ) → k ≤ length ws → I .cost p (take k ws) ≤ price * k
+  pub taken : I .takes p ws ≤ rate * length ws
 
--- lost power leaves what outlasts it, the device down, and any bytes in the page frames
+-- lost power leaves the part as it is, the device down, and any bytes in the page frames
 pub record Loses (I : Interface) (s : I .State) : Type 0 where
-  pub persistent : (x : I .Loss) → I .persistent (I .lose x s) ≡ I .persistent s
+  pub part : (x : I .Loss) → I .partOf (I .lose x s) ≡ I .partOf s
   pub down : (x : I .Loss) → I .image (I .lose x s) .cache ≡ downState
   pub pages : (x : I .Loss) → I .pages (I .lose x s) ≡ I .pages s
   pub shaped : (x : I .Loss) → I .isShaped s ≡ true → I .isShaped (I .lose x s) ≡ true
-  pub intact : (x : I .Loss) → I .isIntact (I .lose x s) ≡ I .isIntact s
-  pub remaining : (x : I .Loss) → I .remaining (I .lose x s) ≡ I .remaining s
   pub frames : (bytes : List ℕ) → (x : I .Loss) × (I .image (I .lose x s) .frames ≡ bytes)
 
 -- some device of P pages in a file, with eight empty files and page frames of their length, mounts, with `supply` of what it runs out of.
@@ -45,7 +44,7 @@ pub record Loses (I : Interface) (s : I .State) : Type 0 where
 pub record Begins (I : Interface) (P supply : ℕ) : Type 0 where
   pub blank : I .State
   pub pages : I .pages blank ≡ P
-  pub remaining : supply ≤ I .remaining blank
+  pub remaining : supply ≤ I .remaining (I .partOf blank)
   pub frames : length (I .image blank .frames) ≡ framesBytes
   pub empty : (f : ℕ) → f < files → onMedia I blank f ≡ []
   pub budget : ℕ
@@ -65,19 +64,23 @@ fitsTypes s =
     ∷ every isSize (s .floor)
     ∷ [])
 
--- any page frames and any cache state may come with what persists
+-- any page frames and any cache state may come beside the same media and the same part
 abbrev pub AnyCache : (I : Interface) → I .State → Type 0
 AnyCache I s =
     (bytes : List ℕ) (c : CacheState) → fitsTypes c ≡ true → I .isShaped s ≡ true
-    → (t : I .State) × (I .image t ≡ deviceOf (I .image s .media) bytes c) × (I .persistent t ≡ I .persistent s) × (I .isShaped t ≡ true) × (I .isIntact t ≡ I .isIntact s)
+    → (t : I .State) × (I .image t ≡ deviceOf (I .image s .media) bytes c) × (I .partOf t ≡ I .partOf s) × (I .pages t ≡ I .pages s) × (I .isShaped t ≡ true)
+
+-- no test fails
+abbrev pub Passes : List Test → Type 0
+Passes ts = firstRefusal ts (done 0) ≡ done 0
 
 -- the demands of a store of P pages in a file. A part that never runs out has rate 0
 pub record Demands (P price rate supply : ℕ) (I : Interface) : Type 0 where
   pub begins : Begins I P supply
   pub any-cache : (s : I .State) → AnyCache I s
   pub loses : (s : I .State) → Loses I s
-  pub priced : (c : Call) (s : I .State) → firstRefusal (conditions I c s) (done 0) ≡ done 0 → Priced I price rate s (plan I c s)
-  pub format-priced : (s : I .State) → firstRefusal (anew I s) (done 0) ≡ done 0 → Priced I price rate s (formatWrites I s)
+  pub priced : (c : Call) (s : I .State) → Passes (conditions I c s) → Priced I price rate (I .partOf s) (plan I c s)
+  pub format-priced : (s : I .State) → Passes (anew I s) → Priced I price rate (I .partOf s) (formatWrites I s)
   pub demand1 : Demand1 I
   pub format : Format I
   pub demand2 : Demand2 I
@@ -89,6 +92,6 @@ pub record Demands (P price rate supply : ℕ) (I : Interface) : Type 0 where
 pub record PlainDemands (P : ℕ) (I : Interface) : Type 0 where
   pub demands : Demands P 1 0 0 I
   pub pages : (s : I .State) → I .pages s ≡ P
-  pub persistent : (s : I .State) → I .persistent s ≡ I .image s .media
-  pub intact : (s : I .State) → I .isIntact s ≡ true
+  pub media : (s : I .State) → persistent I s ≡ I .image s .media
+  pub intact : (s : I .State) → I .isIntact (I .partOf s) ≡ true
   pub any : (d : Device) → fitsTypes (d .cache) ≡ true → (s : I .State) × (I .image s ≡ d) × (I .isShaped s ≡ true)

@@ -1,5 +1,5 @@
 -- Demand 1 of format. It is no call of a run: no claim about a run reaches past it.
-use Prim.Native.Nat.{ℕ, _<_}
+use Prim.Native.Nat.{ℕ, _+_, _<_}
 use mathlib.Core.Path.{_≡_}
 use mathlib.Core.Logic.{_≢_, _⊎_}
 use mathlib.Core.List.{List, [], _++_}
@@ -9,19 +9,19 @@ use Rattle.media.specs.Geometry.{files, fileBytes}
 use Rattle.media.specs.Write.{Media, MediaWrite, byteAt, sizeAt}
 use Rattle.device.specs.Device.{deviceOf, downState}
 use Rattle.device.specs.Mounting.{formatPlan}
-use Rattle.model.specs.Run.{IsDone, Reply, Interface}
+use Rattle.model.specs.Run.{IsDone, Reply, Interface, persistent}
 use Rattle.model.specs.View.{anew, mediaAfter, paying}
 use Rattle.model.specs.Claims.{Persists, Cut}
 
 module _ (I : Interface) where
   -- its media writes
   abbrev pub formatWrites : I .State → List MediaWrite
-  formatWrites s = formatPlan (I .pages s) (I .persistent s)
+  formatWrites s = formatPlan (I .pages s) (persistent I s)
 
   -- what a format gives
   pub record Formats (budget : ℕ) (s : I .State) (r : Reply (I .State)) : Type 0 where
     -- SHAPE, damage, then running out, then CUT
-    pub in-order : r .answer ≡ firstRefusal (anew I s ++ paying I s (formatWrites s) budget) (done (I .cost s (formatWrites s)))
+    pub in-order : r .answer ≡ firstRefusal (anew I s ++ paying I (I .partOf s) (formatWrites s) budget) (done (I .cost (I .partOf s) (formatWrites s)))
     pub silent : r .output ≡ []
     pub unchanged : r .answer .number ≢ 0 → r .answer .number ≢ 9 → r .device ≡ s
     pub is-cut : r .answer .number ≡ 9 → Cut I (formatWrites s) s r
@@ -31,7 +31,9 @@ module _ (I : Interface) where
         let m : Media = I .image (r .device) .media in
         (sizeAt m f ≡ 0) × ((i : ℕ) → i < fileBytes (I .pages s) → byteAt (I .pages s) m f i ≡ 0)
     pub pages : I .pages (r .device) ≡ I .pages s
-    pub persists : r .answer .number ≡ 0 ⊎ r .answer .number ≡ 9 → Persists I (formatWrites s) s (r .device)
+    pub taken : IsDone (r .answer) → I .remaining (I .partOf s) ≡ I .remaining (I .partOf (r .device)) + I .takes (I .partOf s) (formatWrites s)
+    pub persists : r .answer .number ≡ 0 ⊎ r .answer .number ≡ 9 → Persists I (r .device)
+    pub untouched : formatWrites s ≡ [] → I .partOf (r .device) ≡ I .partOf s
 
   abbrev pub Format : Type 0
   Format = (budget : ℕ) (s : I .State) → Formats budget s (I .formats budget s)

@@ -30,9 +30,8 @@ pub record Reply (S : Type 0) : Type 0 where
   pub output : List ℕ
   pub device : S
 
--- what the claims see of a store: the device of document 01 that it is, and what another kind of part beside it adds. What is asked
--- of a call (its refusals, its media writes) follows from this, by specs/View. These fields are taken as given: they are read as
--- part of the claim
+-- what the claims see of a store: the device of document 01 that it is, and the part that outlasts the power. What is asked of a call (its
+-- refusals, its media writes) follows from this, by specs/View. These fields are taken as given: they are read as part of the claim
 pub record Interface : Type 1 where
   -- all that goes from call to call
   pub State : Type 0
@@ -46,16 +45,23 @@ pub record Interface : Type 1 where
   pub pages : State → ℕ
   -- media, page frames and cache state, as the calls find them
   pub image : State → Device
-  -- the media that outlasts the power, with which a mount begins: that of the image, or what another part holds
-  pub persistent : State → Media
-  -- what is borrowed beside the image has its length; it is not damaged
+  -- what is borrowed beside the image has its length
   pub isShaped : State → Bool
-  pub isIntact : State → Bool
+  -- what outlasts the power: the media of the image, or a part of another kind, of which that is the image
+  pub Part : Type 0
+  pub partOf : State → Part
+  -- the media that it holds, with which a mount begins; whether it is not damaged
+  pub contents : Part → Media
+  pub isIntact : Part → Bool
   -- what media writes cost of a budget
-  pub cost : State → List MediaWrite → ℕ
-  -- what a part runs out of: how much of it there is still, and how much media writes take
-  pub remaining : State → ℕ
-  pub takes : State → List MediaWrite → ℕ
+  pub cost : Part → List MediaWrite → ℕ
+  -- what it runs out of: how much of that there is still, and how much media writes take
+  pub remaining : Part → ℕ
+  pub takes : Part → List MediaWrite → ℕ
+
+-- the media that outlasts the power
+abbrev pub persistent : (I : Interface) → I .State → Media
+persistent I s = I .contents (I .partOf s)
 
 -- a reply with the image for the state
 abbrev pub imaged : (I : Interface) → Reply (I .State) → Reply Device
@@ -66,7 +72,7 @@ abbrev pub fileOn : ℕ → Media → ℕ → List ℕ
 fileOn P m f = part (m .bytes) (fileStart P f) (sizeAt m f)
 
 abbrev pub onMedia : (I : Interface) → I .State → ℕ → List ℕ
-onMedia I s = fileOn (I .pages s) (I .persistent s)
+onMedia I s = fileOn (I .pages s) (persistent I s)
 
 -- ---- the model files beside it
 

@@ -3,6 +3,7 @@ use Prim.Native.Nat.{ℕ}
 use mathlib.Core.Bool.{true}
 use mathlib.Core.List.{List, []}
 use lib.ListN.{length}
+use Rattle.media.specs.Write.{Media}
 use Rattle.device.specs.Device.{Device, deviceOf, downState}
 use Rattle.device.specs.Admission.{Result, give}
 use Rattle.device.specs.Reading as Reading
@@ -57,12 +58,14 @@ storeWith P calls = record {
   lose = storeLoses;
   pages = λ d. P;
   image = λ d. d;
-  persistent = λ d. d .media;
   isShaped = λ d. true;
-  isIntact = λ d. true;
-  cost = λ d ws. length ws;
-  remaining = λ d. 0;
-  takes = λ d ws. 0;
+  Part = Media;
+  partOf = λ d. d .media;
+  contents = λ m. m;
+  isIntact = λ m. true;
+  cost = λ m ws. length ws;
+  remaining = λ m. 0;
+  takes = λ m ws. 0;
 }
 
 -- the calls of this store, as defined in crate `device`

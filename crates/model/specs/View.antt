@@ -13,7 +13,7 @@ use Rattle.device.specs.Admission.{mediaShape, sizesFit, deviceTests, stateTest
 use Rattle.device.specs.Writing.{hasRoom}
 use Rattle.device.specs.Syncing.{syncPlan}
 use Rattle.device.specs.Mounting.{mountPlan}
-use Rattle.model.specs.Run.{Call, Interface}
+use Rattle.model.specs.Run.{Call, Interface, persistent}
 use Rattle.model.specs.Run.Call.{read, look, write, truncate, sync, mount}
 
 -- the refusals of another kind of part, in the numbers of document 02: it is damaged, or something in it runs out
@@ -46,11 +46,11 @@ module _ (I : Interface) where
       let d : Device = I .image s in
       test (I .isShaped s) SHAPE
       ∷ (deviceTests P (d .media) (d .frames)
-      ++ (test (I .isIntact s && sameMedia (d .media) (I .persistent s)) DAMAGED ∷ stateTests P (d .media .sizes) (d .cache) f range))
+      ++ (test (I .isIntact (I .partOf s) && sameMedia (d .media) (persistent I s)) DAMAGED ∷ stateTests P (d .media .sizes) (d .cache) f range))
 
   -- of mount and format, which make the image anew: no test of the page frames, of the image's content or of the cache state
   abbrev pub anew : I .State → List Test
-  anew s = test (I .isShaped s) SHAPE ∷ (mediaShape (I .pages s) (I .image s .media) ++ (test (I .isIntact s) DAMAGED ∷ []))
+  anew s = test (I .isShaped s) SHAPE ∷ (mediaShape (I .pages s) (I .image s .media) ++ (test (I .isIntact (I .partOf s)) DAMAGED ∷ []))
 
   abbrev pub conditions : Call → I .State → List Test
   conditions (read f position buffer) s = onFile s f (leb position (greatest s))
@@ -58,7 +58,7 @@ module _ (I : Interface) where
   conditions (write f position bytes) s = onFile s f (leb (position + length bytes) (greatest s))
   conditions (truncate f n) s = onFile s f (leb n (greatest s))
   conditions (sync f budget) s = onFile s f true
-  conditions (mount budget) s = anew s ++ sizesFit (I .pages s) (I .persistent s)
+  conditions (mount budget) s = anew s ++ sizesFit (I .pages s) (persistent I s)
 
   -- ---- media writes
 
@@ -68,26 +68,26 @@ module _ (I : Interface) where
   plan (write f position bytes) s = []
   plan (truncate f n) s = []
   plan (sync f budget) s = syncPlan (I .pages s) (I .image s) f
-  plan (mount budget) s = mountPlan (I .pages s) (I .persistent s)
+  plan (mount budget) s = mountPlan (I .pages s) (persistent I s)
 
   -- the first k media writes fit the budget, the first k + 1 do not
-  abbrev pub Pays : I .State → ℕ → List MediaWrite → ℕ → Type 0
-  Pays s budget ws k = (I .cost s (take k ws) ≤ budget) × (budget < I .cost s (take (suc k) ws))
+  abbrev pub Pays : I .Part → ℕ → List MediaWrite → ℕ → Type 0
+  Pays p budget ws k = (I .cost p (take k ws) ≤ budget) × (budget < I .cost p (take (suc k) ws))
 
   -- the media after these media writes
   abbrev pub mediaAfter : I .State → List MediaWrite → Media
-  mediaAfter s ws = applyAll (I .pages s) (I .persistent s) ws
+  mediaAfter s ws = applyAll (I .pages s) (persistent I s) ws
 
   -- ---- the refusals that remain: NO ROOM where the first page of a write has no slot; a part that runs out; CUT where the budget is
   -- below the cost
 
-  abbrev pub paying : I .State → List MediaWrite → ℕ → List Test
-  paying s ws budget = test (leb (I .takes s ws) (I .remaining s)) EXHAUSTED ∷ test (leb (I .cost s ws) budget) (CUT budget) ∷ []
+  abbrev pub paying : I .Part → List MediaWrite → ℕ → List Test
+  paying p ws budget = test (leb (I .takes p ws) (I .remaining p)) EXHAUSTED ∷ test (leb (I .cost p ws) budget) (CUT budget) ∷ []
 
   abbrev pub limits : Call → I .State → List Test
   limits (read f position buffer) s = []
   limits (look f position) s = []
   limits (write f position bytes) s = test (hasRoom (I .image s) f position bytes) NO-ROOM ∷ []
   limits (truncate f n) s = []
-  limits (sync f budget) s = paying s (plan (sync f budget) s) budget
-  limits (mount budget) s = paying s (plan (mount budget) s) budget
+  limits (sync f budget) s = paying (I .partOf s) (plan (sync f budget) s) budget
+  limits (mount budget) s = paying (I .partOf s) (plan (mount budget) s) budget

@@ -1,13 +1,13 @@
 -- Each wrong store fails a demand, in a run of a few calls.
 use mathlib.Core.Path.{_≡_, refl, sym, ap}
-use mathlib.Core.Bool.{false, false≢true}
+use mathlib.Core.Bool.{Bool, true, false, cond, _&&_, false≢true}
 use mathlib.Core.Logic.{_⊎_, inl, inr}
 use mathlib.Core.List.{List, [], _∷_, _++_}
-use Prim.Native.Nat.{ℕ, zero, suc, _≤_, _<_}
+use Prim.Native.Nat.{ℕ, zero, suc, _+_, _*_, _≤_, _<_}
 use native.Mathlib.Omega.{arith}
 use lib.Dec.{eqb}
 use borrow.Author.Tests.{eqb-true, eqb-false}
-use lib.ListN.{length, getD, set, take, replicate}
+use lib.ListN.{length, getD, set, take, drop, replicate}
 use Rattle.answer.specs.Coded.{Coded, done, BOOKS, DOWN, NO-ROOM, CUT}
 use Rattle.memory.specs.Bytes.{zeros}
 use Rattle.media.specs.Geometry.{files, mediaBytes, fileStart}
@@ -52,9 +52,9 @@ mounted P = deviceOf (mediaOf (zeros (mediaBytes P)) (zeros files)) (zeros frame
 odd : Device
 odd = deviceOf (mediaOf (zeros (mediaBytes 1)) (set (zeros files) 0 1)) (zeros framesBytes) (record { mounted = 2; slots = []; logical = []; floor = [] })
 
--- a file of one byte, and down
+-- two files of one byte, and down
 stored : Device
-stored = deviceOf (mediaOf (zeros (mediaBytes 1)) (set (zeros files) 0 1)) (zeros framesBytes) downState
+stored = deviceOf (mediaOf (zeros (mediaBytes 1)) (set (set (zeros files) 0 1) 1 1)) (zeros framesBytes) downState
 
 -- empty files, and a cache state with the up mark 2
 marked : Device
@@ -85,6 +85,10 @@ not-done a e h = apart (a .number) 0 e (ap (λ (c : Coded). c .number) (h .1))
 dirty : Device
 dirty = storeCalls 1 .writing 0 0 (65 ∷ []) (mounted 1) .left
 
+-- a file that a truncate made longer: one media write, of its size
+grown-file : Device
+grown-file = storeCalls 1 .truncating 0 1 (mounted 1) .left
+
 -- a budget of 1 pays for one of two media writes, the page
 one-stored : (k : ℕ) → (length (take k (syncPlan 1 dirty 0)) ≤ 1) × (1 < length (take (suc k) (syncPlan 1 dirty 0)))
     → deviceOf (dirty .media) (dirty .frames) downState ≡ deviceOf (applyAll 1 (dirty .media) (take k (syncPlan 1 dirty 0))) (dirty .frames) downState → ⊥
@@ -93,8 +97,14 @@ one-stored zero pays e = absurd (omega (arith, pays .1))
 one-stored (suc zero) pays e = apart 0 65 refl (ap (λ (d : Device). getD (d .media .bytes) 0 0) e)
 one-stored (suc (suc k)) pays e = absurd (omega (arith, pays .0))
 
+-- a budget of 1 pays for nothing of two media writes that cost two each, and all of them are left
+idle-cut : (k : ℕ) → 2 * length (take k (syncPlan 1 dirty 0)) ≤ 1 → 4 ≡ 1 + 2 * length (drop k (syncPlan 1 dirty 0)) → ⊥
+unfolding dirty mounted fileStart freeWhere inOrder inRange holdsAlone isDown hasLengths soundTests isSound mediaShape framesShape sizesFit stateTests blankPage filledPage cachePage patchPage putPage grown Writing.write trimWrites pageWrite pageWrites sizeWrites syncPlan writeIf
+idle-cut zero pays e = absurd (omega (arith, e))
+idle-cut (suc k) pays e = absurd (omega (arith, e))
+
 pub ruled-out : RuledOut
-unfolding dirty stored blank mounted odd marked tailed fileStart freeWhere inOrder inRange holdsAlone isDown hasLengths fitsTypes soundTests isSound currentAt mediaShape framesShape sizesFit stateTests Reading.read Looking.lookCount blankPage filledPage cachePage patchPage putPage grown Writing.write clearTail withSizes truncated Truncating.truncate trimWrites pageWrite pageWrites sizeWrites syncPlan syncedState writeIf underBudget pageOf pagesByLog syncByLog sameMedia Syncing.sync nonzeroFrom trimsFrom mountPlan formatPlan Mounting.mount slotWrites Looking.lookedSpan Looking.lookSpan Looking.spanBytes Looking.look
+unfolding dirty grown-file stored blank mounted odd marked tailed fileStart freeWhere inOrder inRange holdsAlone isDown hasLengths fitsTypes soundTests isSound currentAt mediaShape framesShape sizesFit stateTests Reading.read Looking.lookCount blankPage filledPage cachePage patchPage putPage grown Writing.write clearTail withSizes truncated Truncating.truncate trimWrites pageWrite pageWrites sizeWrites syncPlan syncedState writeIf underBudget pageOf pagesByLog syncByLog sameMedia Syncing.sync nonzeroFrom trimsFrom mountPlan formatPlan Mounting.mount slotWrites Looking.lookedSpan Looking.lookSpan Looking.spanBytes Looking.look
 ruled-out = (
   λ h. not-done DOWN refl (h (mount 0) (blank 1 0) .count, h (mount 0) (blank 1 0) .in-order),
   λ h. apart 0 5 refl (ap (λ (c : Coded). c .number) (h (write 0 0 (1 ∷ [])) (blank 1 0) .in-order)),
@@ -169,11 +179,20 @@ ruled-out = (
   λ h. apart 0 (mediaBytes 1) refl (ap (λ (d : Device). length (d .media .bytes)) (h 0 (mounted 1) .leaves refl)),
   λ h. let x = h .priced (sync 0 18) dirty refl .taken in absurd (omega arith),
   λ h. let x = h .priced (sync 0 18) dirty refl .bounded 1 (omega arith) in absurd (omega arith),
-  λ h. let x = h .format-priced stored refl .bounded 1 (omega arith) in absurd (omega arith),
+  λ h. let x = h .format-priced stored refl .bounded 2 (omega arith) in absurd (omega arith),
   λ h. apart 2 0 refl (h .begins .mounts),
-  λ h. let x = h .any-cache (mounted 1) (zeros framesBytes) (marked .cache) refl refl in false≢true (rw (x .1) at (x .3)),
+  λ h. let x = h .any-cache (mounted 1) (zeros framesBytes) (marked .cache) refl refl in false≢true (rw (x .1) at (x .4)),
+  λ h. let x = h .any-cache (mounted 1, true) (zeros framesBytes) (marked .cache) refl refl in longer (x .0 .1) (rw (x .1) at (x .3)),
+  λ h. let x = h .demand1 (sync 0 1) dirty .is-cut refl in idle-cut (x .writes) (x .pays .0) (x .rest),
+  λ h. apart 1 0 refl (ap (λ (p : Media × ℕ). p .1) (h (write 0 0 (1 ∷ [])) (mounted 1, 0) .untouched refl)),
+  λ h. apart 1 2 refl (h .demand1 (sync 0 18) grown-file .is-done refl .taken),
 )
   where
+    -- the pages of a device whose state is not sound
+    longer : (b : Bool) → _≡_ {A = ℕ} (cond (b && false) 1 2) 1 → ⊥
+    longer true e = apart 2 1 refl e
+    longer false e = apart 2 1 refl e
+
     -- one of two bytes was put down, and the second is in the same page
     stopped : {X : Type 0} → (_≡_ {A = ℕ} 1 2) ⊎ ((0 < 1) × (1 < 2) × (_≡_ {A = ℕ} 1 0) × X) → ⊥
     stopped (inl e) = apart 1 2 refl e

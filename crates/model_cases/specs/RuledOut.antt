@@ -3,15 +3,15 @@
 -- Each is this store with one call changed (the first two with all of them, or all but mount), or with another word of itself: a test, a
 -- cost, something that runs out. There are one or two pages in a file.
 use Prim.Native.Nat.{ℕ, suc, _+_, _-_, _*_, _/_, min}
-use mathlib.Core.Bool.{Bool, true, false, not, cond, _&&_}
+use mathlib.Core.Bool.{Bool, true, false, not, cond, _&&_, _||_}
 use mathlib.Core.List.{List, [], _∷_, _++_, map}
-use lib.Dec.{eqb, leb}
+use lib.Dec.{eqb, ltb, leb}
 use lib.ListN.{length, getD, take, drop, set}
-use Rattle.answer.specs.Admission.{ifDone}
+use Rattle.answer.specs.Admission.{ifDone, firstRefusal}
 use Rattle.answer.specs.Coded.{Coded, done, SHAPE, DOWN, RANGE, NO-ROOM, CUT}
 use Rattle.memory.specs.Bytes.{zeros, part, overwrite}
 use Rattle.media.specs.Geometry.{files, pageBytes, fileBytes, mediaBytes, fileStart}
-use Rattle.media.specs.Write.{MediaWrite, mediaOf, sizeAt}
+use Rattle.media.specs.Write.{Media, MediaWrite, mediaOf, sizeAt}
 use Rattle.media.specs.Write.MediaWrite.{page, size, trim}
 use Rattle.device.specs.declared.Slot.{Slot}
 use Rattle.device.specs.Device.{Device, deviceOf, freeSlot, frameStart, isUsed, freeWhere, isCached, logicalAt, floorAt, withSlots, withFloor, downState, mountedState}
@@ -28,16 +28,16 @@ use Rattle.model.specs.Run.{Call, Reply, Interface}
 use Rattle.model.specs.Run.Call.{read, look, write, truncate, sync, mount}
 use Rattle.model.specs.Claims.{asItCame, Demand1, Demand2, Demand3}
 use Rattle.model.specs.Demands.{Demands}
-use Rattle.model.specs.View.{EXHAUSTED, sameBytes}
+use Rattle.model.specs.View.{EXHAUSTED, sameBytes, anew, conditions, plan}
 use Rattle.model.specs.Format.{Format}
 use Rattle.model.specs.Store.{Calls, silent, storeLoses, storeWith, storeCalls, store}
 
 -- ---- this store with one call changed
 
--- with other calls, another format, a test of what is borrowed beside it, a cost, and something that runs out
-abbrev pub interface : (P : ℕ) → (Call → Device → Reply Device) → (ℕ → Device → Reply Device) → (Device → Bool) → (Device → List MediaWrite → ℕ)
-    → (List MediaWrite → ℕ) → Interface
-interface P does formats shaped cost takes =
+-- with other calls, another format, a test of what is borrowed beside it, a cost, and something of which so much is left
+abbrev pub interface : (P : ℕ) → (Call → Device → Reply Device) → (ℕ → Device → Reply Device) → (Device → Bool) → (Media → List MediaWrite → ℕ)
+    → ℕ → (List MediaWrite → ℕ) → Interface
+interface P does formats shaped cost remaining takes =
     record {
       State = Device;
       does = does;
@@ -46,12 +46,14 @@ interface P does formats shaped cost takes =
       lose = storeLoses;
       pages = λ d. P;
       image = λ d. d;
-      persistent = λ d. d .media;
       isShaped = shaped;
-      isIntact = λ d. true;
+      Part = Media;
+      partOf = λ d. d .media;
+      contents = λ m. m;
+      isIntact = λ m. true;
       cost = cost;
-      remaining = λ d. 0;
-      takes = λ d. takes;
+      remaining = λ m. remaining;
+      takes = λ m. takes;
     }
 
 module _ (P : ℕ) where
@@ -365,18 +367,18 @@ breaksElsewhere =
 abbrev pub chatters : Interface
 chatters =
     let s : Interface = storeWith 1 (storeCalls 1) in
-    interface 1 (λ c d. let r : Reply Device = s .does c d in record { answer = r .answer; output = 1 ∷ []; device = r .device }) (s .formats) (λ d. true) (λ d. length) (λ ws. 0)
+    interface 1 (λ c d. let r : Reply Device = s .does c d in record { answer = r .answer; output = 1 ∷ []; device = r .device }) (s .formats) (λ d. true) (λ m. length) 0 (λ ws. 0)
 
 -- a store that refuses everything by a test of its own
 abbrev pub refusesAlone : Interface
 refusesAlone =
-    interface 1 (λ c d. record { answer = SHAPE; output = asItCame c; device = d }) (λ budget d. silent (give SHAPE d)) (λ d. false) (λ d. length) (λ ws. 0)
+    interface 1 (λ c d. record { answer = SHAPE; output = asItCame c; device = d }) (λ budget d. silent (give SHAPE d)) (λ d. false) (λ m. length) 0 (λ ws. 0)
 
 -- a store on which every sync runs out of something
 abbrev pub wornOut : Interface
 wornOut =
     let s : Interface = withSync 1 (λ f budget d. admit (fileTests 1 d f true) d (give (cond (eqb (length (syncPlan 1 d f)) 0) (done 0) EXHAUSTED) d)) in
-    interface 1 (s .does) (s .formats) (λ d. true) (λ d. length) length
+    interface 1 (s .does) (s .formats) (λ d. true) (λ m. length) 0 length
 
 -- a reply under half the budget that counts double
 abbrev pub twice : ℕ → Reply Device → Reply Device
@@ -384,7 +386,7 @@ twice budget r =
     let a : Coded = cond (eqb (r .answer .number) 9) (CUT budget) (record { number = r .answer .number; count = 2 * r .answer .count }) in
     record { answer = a; output = r .output; device = r .device }
 
--- a store that asks and counts two for each media write
+-- a store that asks and counts two for each media write, and does nothing for one
 abbrev pub dearCalls : Call → Device → Reply Device
 dearCalls (read f position buffer) d = store 1 .does (read f position buffer) d
 dearCalls (look f position) d = store 1 .does (look f position) d
@@ -394,28 +396,99 @@ dearCalls (sync f budget) d = twice budget (store 1 .does (sync f (budget / 2)) 
 dearCalls (mount budget) d = twice budget (store 1 .does (mount (budget / 2)) d)
 
 abbrev pub overcharges : Interface
-overcharges = interface 1 dearCalls (λ budget d. twice budget (store 1 .formats (budget / 2) d)) (λ d. true) (λ d ws. 2 * length ws) (λ ws. 0)
+overcharges = interface 1 dearCalls (λ budget d. twice budget (store 1 .formats (budget / 2) d)) (λ d. true) (λ m ws. 2 * length ws) 0 (λ ws. 0)
 
--- the device is down, file 0 is not empty, and the first media write empties it: no other call than format has such media writes there
-abbrev pub formatsFile0 : Device → List MediaWrite → Bool
-formatsFile0 d [] = false
-formatsFile0 d (page f p bytes ∷ ws) = false
-formatsFile0 d (size f n ∷ ws) = false
-formatsFile0 d (trim f n ∷ ws) = (eqb (d .cache .mounted) 0 && not (eqb (sizeAt (d .media) 0) 0)) && (eqb f 0 && eqb n 0)
+-- a TRIM of a file below this one to 0
+abbrev pub empties : ℕ → MediaWrite → Bool
+empties below (page f p bytes) = false
+empties below (size f n) = false
+empties below (trim f n) = ltb f below && eqb n 0
+
+-- file 0 is not empty, the first media write empties it, and the second empties another file: no call but format has such media writes
+abbrev pub formatsTwo : Media → List MediaWrite → Bool
+formatsTwo m [] = false
+formatsTwo m (w ∷ []) = false
+formatsTwo m (w ∷ v ∷ ws) = not (eqb (sizeAt m 0) 0) && (empties 1 w && empties files v)
 
 -- a store whose format asks and counts two for each media write there
 abbrev pub dearFormat : Interface
 dearFormat =
-    let dear : Device → Bool = λ d. formatsFile0 d (formatPlan 1 (d .media)) in
+    let dear : Device → Bool = λ d. formatsTwo (d .media) (formatPlan 1 (d .media)) in
     interface 1 (store 1 .does) (λ budget d. cond (dear d) (twice budget (store 1 .formats (budget / 2) d)) (store 1 .formats budget d)) (λ d. true)
-    (λ d ws. cond (formatsFile0 d ws) (2 * length ws) (length ws)) (λ ws. 0)
+    (λ m ws. cond (formatsTwo m ws) (2 * length ws) (length ws)) 0 (λ ws. 0)
 
 -- a store that says SHAPE where the cache state is not sound
 abbrev pub refusesUnsound : Interface
 refusesUnsound =
     let s : Interface = storeWith 1 (storeCalls 1) in
     let sound : Device → Bool = λ d. isSound 1 (d .media .sizes) (d .cache) in
-    interface 1 (λ c d. cond (sound d) (s .does c d) (record { answer = SHAPE; output = asItCame c; device = d })) (s .formats) sound (λ d. length) (λ ws. 0)
+    interface 1 (λ c d. cond (sound d) (s .does c d) (record { answer = SHAPE; output = asItCame c; device = d })) (s .formats) sound (λ m. length) 0 (λ ws. 0)
+
+-- a store that takes its media for one of longer files where the cache state is not sound
+abbrev pub misjudges : Interface
+misjudges =
+    let right : Device × Bool → Bool = λ s. s .1 && isSound 1 (s .0 .media .sizes) (s .0 .cache) in
+    let pages : Device × Bool → ℕ = λ s. cond (right s) 1 2 in
+    let next : Device × Bool → Reply Device → Reply (Device × Bool) =
+    λ s r. record { answer = r .answer; output = r .output; device = (r .device, cond (eqb (r .answer .number) 0 || eqb (r .answer .number) 9) (right s) (s .1)) } in
+    record {
+      State = Device × Bool;
+      does = λ c s. next s (store (pages s) .does c (s .0));
+      formats = λ budget s. next s (store (pages s) .formats budget (s .0));
+      Loss = List ℕ;
+      lose = λ frames s. (storeLoses frames (s .0), right s);
+      pages = pages;
+      image = λ s. s .0;
+      isShaped = λ s. true;
+      Part = Media;
+      partOf = λ s. s .0 .media;
+      contents = λ m. m;
+      isIntact = λ m. true;
+      cost = λ m ws. length ws;
+      remaining = λ m. 0;
+      takes = λ m ws. 0;
+    }
+
+-- what a done write adds to a count in the part
+abbrev pub worn : Call → ℕ → ℕ
+worn (read f position buffer) n = n
+worn (look f position) n = n
+worn (write f position bytes) n = suc n
+worn (truncate f n) k = k
+worn (sync f budget) n = n
+worn (mount budget) n = n
+
+-- a store whose writes change the part beside all media writes, as one that erases a block of it does
+abbrev pub wears : Interface
+wears =
+    let next : Device × ℕ → Call → Reply Device → Reply (Device × ℕ) =
+    λ s c r. record { answer = r .answer; output = r .output; device = (r .device, ifDone (r .answer) (worn c (s .1)) (s .1)) } in
+    record {
+      State = Device × ℕ;
+      does = λ c s. next s c (store 1 .does c (s .0));
+      formats = λ budget s. next s (mount budget) (store 1 .formats budget (s .0));
+      Loss = List ℕ;
+      lose = λ frames s. (storeLoses frames (s .0), s .1);
+      pages = λ s. 1;
+      image = λ s. s .0;
+      isShaped = λ s. true;
+      Part = Media × ℕ;
+      partOf = λ s. (s .0 .media, s .1);
+      contents = λ p. p .0;
+      isIntact = λ p. true;
+      cost = λ p ws. length ws;
+      remaining = λ p. 0;
+      takes = λ p ws. 0;
+    }
+
+-- a store that runs out at a second media write of a call, and is left with as much by the first
+abbrev pub tires : Interface
+tires =
+    let few : List MediaWrite → Bool = λ ws. leb (length ws) 1 in
+    interface 1
+    (λ c d. cond (few (plan (store 1) c d)) (store 1 .does c d) (record { answer = firstRefusal (conditions (store 1) c d) EXHAUSTED; output = asItCame c; device = d }))
+    (λ budget d. cond (few (formatPlan 1 (d .media))) (store 1 .formats budget d) (record { answer = firstRefusal (anew (store 1) d) EXHAUSTED; output = []; device = d }))
+    (λ d. true) (λ m. length) 1 length
 
 -- a truncate that leaves the device down where nothing is cached or stored
 abbrev pub truncateDown : Interface
@@ -491,3 +564,7 @@ RuledOut =
     × (Demands 1 1 0 0 dearFormat → ⊥)
     × (Demands 1 1 0 0 refusesAlone → ⊥)
     × (Demands 1 1 0 0 refusesUnsound → ⊥)
+    × (Demands 1 1 0 0 misjudges → ⊥)
+    × (Demands 1 2 0 0 overcharges → ⊥)
+    × (Demand1 wears → ⊥)
+    × (Demands 1 1 1 0 tires → ⊥)

@@ -37,7 +37,8 @@ abbrev pub shown : Reply Device → Ran
 shown r = record { answer = r .answer; bytes = take (r .answer .count) (r .output); device = r .device }
 
 module _ (P : ℕ) where
-  -- what the calls of a run print, one after another, with the model files beside them
+  -- what the calls of a run print, one after another. The model files go along as in a run, so that the demands speak of these calls; after a
+  -- format they say nothing, up to the next done mount
   abbrev pub printed : List Asked → World (store P) → List ℕ
   printed [] w = []
   printed (makes c ∷ more) w = text (shown (storeDoes P c (w .device))) ++ printed more (step (store P) w (call c))
