@@ -12,3 +12,4 @@ pub mod Work
 pub mod Refusals
 pub mod Format
 pub mod Claims
+pub mod Order

@@ -7,4 +7,5 @@ pub mod Claims
 pub mod Format
 pub mod Demands
 pub mod States
+pub mod Order
 pub mod Store
