@@ -6,7 +6,7 @@ use mathlib.Core.List.{List, [], _++_}
 use Prim.Native.Nat.{ℕ, suc, _≤_, _<_}
 use native.Mathlib.Omega.{arith}
 use lib.Dec.{eqb}
-use lib.ListN.{length, length-take}
+use lib.ListN.{length, length-append}
 use borrow.Table.Steps.{cases}
 use Rattle.answer.specs.Coded.{Coded, done, SHAPE}
 use Rattle.answer.specs.Admission.{firstRefusal}
@@ -206,7 +206,7 @@ module _ (P : ℕ) where
                   work =
                       subst (λ (ws : List MediaWrite). Works P c (deviceIn l) (l .media) (length ws) (imaged Linked (asBytes (storeDoes P c (deviceIn l))))) (plan-same c)
                       (subst (λ (r : Reply Device). Works P c (deviceIn l) (l .media) (length (plan (store P) c (deviceIn l))) r) (sym (said-reply c)) (x .work));
-                  taken = refl;
+                  made = record { further = λ vs. length-append (plan Linked c l) vs; taken = refl };
                 };
             pages = refl;
             persists = persists c;
@@ -392,7 +392,7 @@ module _ (P : ℕ) where
           leaves = λ z. b ∙ x .leaves z;
           empty = x .empty;
           pages = refl;
-          taken = λ _. refl;
+          made = λ _. record { further = λ vs. length-append (formatWrites Linked l) vs; taken = refl };
           persists = λ z. down-persists l e hp hb (r .device) (down z);
           untouched = x .untouched;
         })
@@ -413,7 +413,7 @@ module _ (P : ℕ) where
           leaves = λ z. absurd (omega arith);
           empty = λ z. absurd (omega arith);
           pages = refl;
-          taken = λ _. refl;
+          made = λ z. absurd (omega arith);
           persists = λ z. elim z [
             | inl y ↦ absurd (omega arith)
             | inr y ↦ absurd (omega arith)

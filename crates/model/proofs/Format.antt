@@ -19,7 +19,7 @@ use Rattle.model.specs.View.{mediaAfter}
 use Rattle.model.specs.Claims.{Cut}
 use Rattle.model.specs.Format.{Format}
 use Rattle.model.specs.Store.{store, silent}
-use Rattle.model.proofs.Refusals.{cut-at, plain-persists}
+use Rattle.model.proofs.Refusals.{cut-at, plain-made, plain-persists}
 
 pub format-claim : (P : ℕ) → Format (store P)
 unfolding format mediaShape
@@ -45,7 +45,7 @@ format-claim P budget d =
           (λ r. IsDone (r .answer) → (f : ℕ) → f < files → (sizeAt (r .left .media) f ≡ 0) × ((i : ℕ) → i < fileBytes P → byteAt P (r .left .media) f i ≡ 0))
           (λ k lo hi z. absurd (omega arith)) (λ l z. absurd (omega arith)) (λ l lb ls z f hf. format-done P (d .media) lb ls f hf);
       pages = refl;
-      taken = λ _. refl;
+      made = λ _. plain-made P (d .media) ws (format P budget d .left .media);
       persists = λ _. plain-persists P (format P budget d .left);
       untouched = λ none.
           format-by P budget d (λ r. r .left .media ≡ d .media) (λ k lo hi. refl) (λ l. rw (none, take-nil)) (λ l lb ls. rw none);

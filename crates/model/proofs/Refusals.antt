@@ -6,7 +6,7 @@ use mathlib.Core.List.{List, [], _∷_, _++_}
 use Prim.Native.Nat.{ℕ, suc, _+_, _<_}
 use native.Mathlib.Omega.{arith}
 use lib.Dec.{leb}
-use lib.ListN.{length, take, length-take, length-drop}
+use lib.ListN.{length, take, length-take, length-drop, length-append}
 use lib.Seq.{take-nil}
 use borrow.Author.Tests.{eq-eqb, leb-true}
 use Rattle.answer.specs.Coded.{Coded, refused, done, NO-ROOM, CUT}
@@ -35,7 +35,7 @@ use Rattle.device.proofs.Mounting.{mount-by}
 use Rattle.model.specs.Run.{Call, IsDone, Reply}
 use Rattle.model.specs.Run.Call.{read, look, write, truncate, sync, mount}
 use Rattle.model.specs.View.{sameBytes, sameMedia, onFile, conditions, plan, mediaAfter, limits}
-use Rattle.model.specs.Claims.{asItCame, isIdle, Persists, Cut, Demand1}
+use Rattle.model.specs.Claims.{asItCame, isIdle, Made, Cut, Persists, Demand1}
 use Rattle.model.specs.Store.{keeping, silent, storeDoes, store}
 use Rattle.model.proofs.Mounts.{done-fit}
 use Rattle.model.proofs.Work.{admitted-fit, works}
@@ -179,6 +179,9 @@ module _ (P : ℕ) where
   idle (sync f budget) d e = absurd (false≢true e)
   idle (mount budget) d e = absurd (false≢true e)
 
+  pub plain-made : (p : Media) (ws : List MediaWrite) (q : Media) → Made (store P) p ws q
+  plain-made p ws q = record { further = λ vs. length-append ws vs; taken = refl }
+
   pub plain-persists : (d : Device) → Persists (store P) d
   plain-persists d = record { image = refl; shaped = refl; intact = refl }
 
@@ -202,7 +205,7 @@ module _ (P : ℕ) where
         idle = idle c d;
         is-cut = l .is-cut;
         is-done = λ z.
-            let e = l .ends z in record { stored = e .stored; mounted = e .mounted; sound = e .sound; frames = frames-kept c d; work = works P c d z; taken = refl };
+            let e = l .ends z in record { stored = e .stored; mounted = e .mounted; sound = e .sound; frames = frames-kept c d; work = works P c d z; made = plain-made (d .media) (plan (store P) c d) (storeDoes P c d .device .media) };
         pages = refl;
         persists = λ _. plain-persists (storeDoes P c d .device);
         untouched = untouched c d (storeDoes P c d) l;

@@ -46,16 +46,21 @@ isIdle (truncate f n) = false
 isIdle (sync f budget) = false
 isIdle (mount budget) = false
 
+-- from part p to part q these media writes were made, and nothing else: others after them cost what they cost in the same call, and what
+-- the part runs out of is less by what they take
+pub record Made (I : Interface) (p : I .Part) (ws : List MediaWrite) (q : I .Part) : Type 0 where
+  pub further : (vs : List MediaWrite) → I .cost p (ws ++ vs) ≡ I .cost p ws + I .cost q vs
+  pub taken : I .remaining p ≡ I .remaining q + I .takes p ws
+
 -- done: the whole media, bytes and sizes, is as the media writes of the call leave it, and no other call than sync and mount has any;
--- the device is mounted, its state sound, the page frames keep their length, the work is done, and what the part runs out of gets less by
--- what the media writes take
+-- the device is mounted, its state sound, the page frames keep their length, and the work is done
 pub record Done (I : Interface) (c : Call) (s : I .State) (r : Reply (I .State)) : Type 0 where
   pub stored : I .image (r .device) .media ≡ mediaAfter I s (plan I c s)
   pub mounted : I .image (r .device) .cache .mounted ≡ 1
   pub sound : isSound (I .pages s) (I .image (r .device) .media .sizes) (I .image (r .device) .cache) ≡ true
   pub frames : length (I .image (r .device) .frames) ≡ length (I .image s .frames)
   pub work : Works (I .pages s) c (I .image s) (persistent I s) (I .cost (I .partOf s) (plan I c s)) (imaged I r)
-  pub taken : I .remaining (I .partOf s) ≡ I .remaining (I .partOf (r .device)) + I .takes (I .partOf s) (plan I c s)
+  pub made : Made I (I .partOf s) (plan I c s) (I .partOf (r .device))
 
 -- CUT, of a call with these media writes: as many first ones are done as the budget pays for, the answer counts the budget, and the device
 -- is down. The rest of them would cost what the budget lacked: all that it paid for is done, a part of a media write too. Power lost

@@ -1,5 +1,5 @@
 -- Demand 1 of format. It is no call of a run: no claim about a run reaches past it.
-use Prim.Native.Nat.{ℕ, _+_, _<_}
+use Prim.Native.Nat.{ℕ, _<_}
 use mathlib.Core.Path.{_≡_}
 use mathlib.Core.Logic.{_≢_, _⊎_}
 use mathlib.Core.List.{List, [], _++_}
@@ -11,7 +11,7 @@ use Rattle.device.specs.Device.{deviceOf, downState}
 use Rattle.device.specs.Mounting.{formatPlan}
 use Rattle.model.specs.Run.{IsDone, Reply, Interface, persistent}
 use Rattle.model.specs.View.{anew, mediaAfter, paying}
-use Rattle.model.specs.Claims.{Persists, Cut}
+use Rattle.model.specs.Claims.{Made, Cut, Persists}
 
 module _ (I : Interface) where
   -- its media writes
@@ -31,7 +31,7 @@ module _ (I : Interface) where
         let m : Media = I .image (r .device) .media in
         (sizeAt m f ≡ 0) × ((i : ℕ) → i < fileBytes (I .pages s) → byteAt (I .pages s) m f i ≡ 0)
     pub pages : I .pages (r .device) ≡ I .pages s
-    pub taken : IsDone (r .answer) → I .remaining (I .partOf s) ≡ I .remaining (I .partOf (r .device)) + I .takes (I .partOf s) (formatWrites s)
+    pub made : IsDone (r .answer) → Made I (I .partOf s) (formatWrites s) (I .partOf (r .device))
     pub persists : r .answer .number ≡ 0 ⊎ r .answer .number ≡ 9 → Persists I (r .device)
     pub untouched : formatWrites s ≡ [] → I .partOf (r .device) ≡ I .partOf s
 

@@ -185,7 +185,7 @@ ruled-out = (
   λ h. let x = h .any-cache (mounted 1, true) (zeros framesBytes) (marked .cache) refl refl in longer (x .0 .1) (rw (x .1) at (x .3)),
   λ h. let x = h .demand1 (sync 0 1) dirty .is-cut refl in idle-cut (x .writes) (x .pays .0) (x .rest),
   λ h. apart 1 0 refl (ap (λ (p : Media × ℕ). p .1) (h (write 0 0 (1 ∷ [])) (mounted 1, 0) .untouched refl)),
-  λ h. apart 1 2 refl (h .demand1 (sync 0 18) grown-file .is-done refl .taken),
+  λ h. apart 1 2 refl (h .demand1 (sync 0 18) grown-file .is-done refl .made .taken),
 )
   where
     -- the pages of a device whose state is not sound
