@@ -6,14 +6,14 @@ use mathlib.Core.List.{List, [], _++_}
 use Prim.Native.Nat.{ℕ, suc, _≤_, _<_}
 use native.Mathlib.Omega.{arith}
 use lib.Dec.{eqb}
-use lib.ListN.{length, length-append}
+use lib.ListN.{length}
 use borrow.Table.Steps.{cases}
 use Rattle.answer.specs.Coded.{Coded, done, SHAPE}
 use Rattle.answer.specs.Admission.{firstRefusal}
 use Rattle.memory.proofs.Cases.{split-eq}
 use Rattle.scan.proofs.Scan.{and-left}
 use Rattle.media.specs.Geometry.{files, fileBytes, pagesPerFile}
-use Rattle.media.specs.Write.{MediaWrite, applyAll}
+use Rattle.media.specs.Write.{Media, MediaWrite, applyAll}
 use Rattle.device.specs.declared.CacheState.{CacheState}
 use Rattle.device.specs.declared.Span.{Span}
 use Rattle.device.specs.Device.{Device, deviceOf, downState}
@@ -39,7 +39,7 @@ use Rattle.model.specs.Run.Call.{read, look, write, truncate, sync, mount}
 use Rattle.model.specs.Run.Event.{call, powerLost}
 use Rattle.model.specs.View.{conditions, plan, limits}
 use Rattle.model.specs.Work.{Works}
-use Rattle.model.specs.Claims.{asItCame, Cut, Persists, Answers, Demand1, Serves, Served, Demand2, Demand3}
+use Rattle.model.specs.Claims.{asItCame, Made, Cut, Persists, Answers, Demand1, Serves, Served, Demand2, Demand3}
 use Rattle.model.specs.Format.{formatWrites, Formats, Format}
 use Rattle.model.specs.Demands.{Priced, Loses, Begins, PlainDemands}
 use Rattle.model.specs.States.{CrashState, ClosedForm}
@@ -66,6 +66,10 @@ there l e = let b = state-bytes (l .state) e in ap (λ (s : List ℕ). lent (l .
 module _ (P : ℕ) where
   abbrev Linked : Interface
   Linked = linkedStore P
+
+  -- the part is the media, as on the device
+  linked-made : (p : Media) (ws : List MediaWrite) (spent : ℕ) (q : Media) → Made (store P) p ws spent q → Made Linked p ws spent q
+  linked-made p ws spent q x = record { paid = x .paid; used = x .used }
 
   -- the lengths of the arrays stay
   stays-shaped : (c : Call) (d : Device) → Shaped (d .cache) → Shaped (storeDoes P c d .device .cache)
@@ -195,7 +199,7 @@ module _ (P : ℕ) where
             is-cut = λ z.
                 let x = a .is-cut z in
                 subst (λ (ws : List MediaWrite). Cut Linked ws l (asBytes (storeDoes P c (deviceIn l)))) (plan-same c)
-                (record { writes = x .writes; pays = x .pays; leaves = said c ∙ x .leaves; rest = x .rest; taken = x .taken });
+                (record { writes = x .writes; pays = x .pays; leaves = said c ∙ x .leaves; made = linked-made _ _ _ _ (x .made) });
             is-done = λ z.
                 let x = a .is-done z in
                 record {
@@ -206,7 +210,7 @@ module _ (P : ℕ) where
                   work =
                       subst (λ (ws : List MediaWrite). Works P c (deviceIn l) (l .media) (length ws) (imaged Linked (asBytes (storeDoes P c (deviceIn l))))) (plan-same c)
                       (subst (λ (r : Reply Device). Works P c (deviceIn l) (l .media) (length (plan (store P) c (deviceIn l))) r) (sym (said-reply c)) (x .work));
-                  made = record { further = λ vs. length-append (plan Linked c l) vs; taken = refl };
+                  made = subst (λ (ws : List MediaWrite). Made Linked (l .media) ws (length ws) (after c .media)) (plan-same c) (linked-made _ _ _ _ (x .made));
                 };
             pages = refl;
             persists = persists c;
@@ -351,7 +355,7 @@ module _ (P : ℕ) where
 
     begins : Begins Linked P 0
     begins = record {
-      blank = blank;
+      initial = blank;
       pages = refl;
       remaining = omega arith;
       frames = refl;
@@ -388,11 +392,11 @@ module _ (P : ℕ) where
           in-order = rw e (x .in-order);
           silent = refl;
           unchanged = λ z n. ap lentOf (x .unchanged z n) ∙ there l e;
-          is-cut = λ z. let y = x .is-cut z in record { writes = y .writes; pays = y .pays; leaves = b ∙ y .leaves; rest = y .rest; taken = y .taken };
+          is-cut = λ z. let y = x .is-cut z in record { writes = y .writes; pays = y .pays; leaves = b ∙ y .leaves; made = linked-made _ _ _ _ (y .made) };
           leaves = λ z. b ∙ x .leaves z;
           empty = x .empty;
           pages = refl;
-          made = λ _. record { further = λ vs. length-append (formatWrites Linked l) vs; taken = refl };
+          made = λ z. linked-made _ _ _ _ (x .made z);
           persists = λ z. down-persists l e hp hb (r .device) (down z);
           untouched = x .untouched;
         })
@@ -427,6 +431,7 @@ module _ (P : ℕ) where
     linked-demands = record {
       demands = record {
         begins = begins;
+        any-part = λ m. (lent m [] [], refl);
         any-cache = λ l bytes c h _.
             let x : Device = deviceOf (l .media) bytes c in (lentOf x, back x (held-shaped c h), refl, refl, held-bytes c h);
         loses = loses;
@@ -439,6 +444,7 @@ module _ (P : ℕ) where
       };
       pages = λ l. refl;
       media = λ l. refl;
+      alone = λ p q e. e;
       intact = λ l. refl;
       any = λ d h. (lentOf d, back d (held-shaped (d .cache) h), held-bytes (d .cache) h);
     }

@@ -159,7 +159,7 @@ module _ (P : ℕ) where
 
   pub begins : Begins (store P) P 0
   begins = record {
-    blank = empty;
+    initial = empty;
     pages = refl;
     remaining = omega arith;
     frames = refl;
@@ -181,6 +181,7 @@ module _ (P : ℕ) where
   demands = record {
     demands = record {
       begins = begins;
+      any-part = λ m. (deviceOf m [] downState, refl);
       any-cache = λ d bytes c _ _. (deviceOf (d .media) bytes c, refl, refl, refl, refl);
       loses = loses;
       priced = λ c d _. priced (store P) (λ m ws. refl) (λ m ws. refl) (d .media) (plan (store P) c d);
@@ -192,6 +193,7 @@ module _ (P : ℕ) where
     };
     pages = λ d. refl;
     media = λ d. refl;
+    alone = λ p q e. e;
     intact = λ d. refl;
     any = λ d h. (d, refl, refl);
   }

@@ -3,6 +3,7 @@ use mathlib.Core.Path.{_≡_, refl, ap, _∙_}
 use mathlib.Core.Logic.{_≢_}
 use mathlib.Core.List.{List, []}
 use Prim.Native.Nat.{ℕ, _<_}
+use lib.ListN.{length}
 use native.Mathlib.Omega.{arith}
 use lib.Seq.{take-nil}
 use Rattle.answer.specs.Admission.{firstRefusal}
@@ -16,7 +17,7 @@ use Rattle.device.proofs.Plan.{budget-answer}
 use Rattle.device.proofs.Mounting.{format-by, format-done}
 use Rattle.model.specs.Run.{IsDone}
 use Rattle.model.specs.View.{mediaAfter}
-use Rattle.model.specs.Claims.{Cut}
+use Rattle.model.specs.Claims.{Made, Cut}
 use Rattle.model.specs.Format.{Format}
 use Rattle.model.specs.Store.{store, silent}
 use Rattle.model.proofs.Refusals.{cut-at, plain-made, plain-persists}
@@ -45,7 +46,9 @@ format-claim P budget d =
           (λ r. IsDone (r .answer) → (f : ℕ) → f < files → (sizeAt (r .left .media) f ≡ 0) × ((i : ℕ) → i < fileBytes P → byteAt P (r .left .media) f i ≡ 0))
           (λ k lo hi z. absurd (omega arith)) (λ l z. absurd (omega arith)) (λ l lb ls z f hf. format-done P (d .media) lb ls f hf);
       pages = refl;
-      made = λ _. plain-made P (d .media) ws (format P budget d .left .media);
+      made =
+          format-by P budget d (λ r. IsDone (r .answer) → Made (store P) (d .media) (formatPlan P (d .media)) (r .answer .count) (r .left .media))
+          (λ k lo hi z. absurd (omega arith)) (λ l z. absurd (omega arith)) (λ l lb ls z. plain-made P (d .media) ws (length ws) _ refl);
       persists = λ _. plain-persists P (format P budget d .left);
       untouched = λ none.
           format-by P budget d (λ r. r .left .media ≡ d .media) (λ k lo hi. refl) (λ l. rw (none, take-nil)) (λ l lb ls. rw none);

@@ -6,7 +6,7 @@ use mathlib.Core.List.{List, [], _∷_, _++_}
 use Prim.Native.Nat.{ℕ, suc, _+_, _<_}
 use native.Mathlib.Omega.{arith}
 use lib.Dec.{leb}
-use lib.ListN.{length, take, length-take, length-drop, length-append}
+use lib.ListN.{length, take, length-take, length-append}
 use lib.Seq.{take-nil}
 use borrow.Author.Tests.{eq-eqb, leb-true}
 use Rattle.answer.specs.Coded.{Coded, refused, done, NO-ROOM, CUT}
@@ -80,6 +80,9 @@ module _ (P : ℕ) where
 
   -- ---- what a call leaves
 
+  pub plain-made : (p : Media) (ws : List MediaWrite) (spent : ℕ) (q : Media) → length ws ≡ spent → Made (store P) p ws spent q
+  plain-made p ws spent q e = record { paid = λ w vs. omega (arith, e, length-append ws (w ∷ vs)); used = λ w vs. refl }
+
   -- a budget pays for as many first media writes
   pub cut-at : (d : Device) (ws : List MediaWrite) (budget : ℕ) (output : List ℕ) → budget < length ws
       → Cut (store P) ws d (record { answer = CUT budget; output = output; device = deviceOf (mediaAfter (store P) d (take budget ws)) (d .frames) downState })
@@ -87,8 +90,7 @@ module _ (P : ℕ) where
     writes = budget;
     pays = (omega (arith, length-take budget ws), omega (arith, length-take (suc budget) ws));
     leaves = refl;
-    rest = omega (arith, length-drop budget ws);
-    taken = omega arith;
+    made = plain-made (d .media) (take budget ws) budget _ (omega (arith, length-take budget ws));
   }
 
   -- what is left to say of a done call
@@ -179,9 +181,6 @@ module _ (P : ℕ) where
   idle (sync f budget) d e = absurd (false≢true e)
   idle (mount budget) d e = absurd (false≢true e)
 
-  pub plain-made : (p : Media) (ws : List MediaWrite) (q : Media) → Made (store P) p ws q
-  plain-made p ws q = record { further = λ vs. length-append ws vs; taken = refl }
-
   pub plain-persists : (d : Device) → Persists (store P) d
   plain-persists d = record { image = refl; shaped = refl; intact = refl }
 
@@ -205,7 +204,7 @@ module _ (P : ℕ) where
         idle = idle c d;
         is-cut = l .is-cut;
         is-done = λ z.
-            let e = l .ends z in record { stored = e .stored; mounted = e .mounted; sound = e .sound; frames = frames-kept c d; work = works P c d z; made = plain-made (d .media) (plan (store P) c d) (storeDoes P c d .device .media) };
+            let e = l .ends z in record { stored = e .stored; mounted = e .mounted; sound = e .sound; frames = frames-kept c d; work = works P c d z; made = plain-made (d .media) (plan (store P) c d) (length (plan (store P) c d)) (storeDoes P c d .device .media) refl };
         pages = refl;
         persists = λ _. plain-persists (storeDoes P c d .device);
         untouched = untouched c d (storeDoes P c d) l;

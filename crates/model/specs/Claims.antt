@@ -6,7 +6,7 @@ use mathlib.Core.Path.{_≡_}
 use mathlib.Core.Logic.{_≢_, _⊎_}
 use mathlib.Core.Bool.{Bool, true, false, cond}
 use mathlib.Core.List.{List, [], _∷_, _++_}
-use lib.ListN.{length, take, drop}
+use lib.ListN.{length, take}
 use Rattle.answer.specs.Coded.{done, NO-ROOM}
 use Rattle.answer.specs.Admission.{test, firstRefusal}
 use Rattle.memory.specs.Bytes.{zeros, part, overwrite}
@@ -46,11 +46,11 @@ isIdle (truncate f n) = false
 isIdle (sync f budget) = false
 isIdle (mount budget) = false
 
--- from part p to part q these media writes were made, and nothing else: others after them cost what they cost in the same call, and what
--- the part runs out of is less by what they take
-pub record Made (I : Interface) (p : I .Part) (ws : List MediaWrite) (q : I .Part) : Type 0 where
-  pub further : (vs : List MediaWrite) → I .cost p (ws ++ vs) ≡ I .cost p ws + I .cost q vs
-  pub taken : I .remaining p ≡ I .remaining q + I .takes p ws
+-- part p became part q by these media writes and the first steps of the next one, for so much, and by nothing else that costs or takes:
+-- whatever media writes follow, they cost and take the rest of what they would from p on
+pub record Made (I : Interface) (p : I .Part) (ws : List MediaWrite) (spent : ℕ) (q : I .Part) : Type 0 where
+  pub paid : (w : MediaWrite) (vs : List MediaWrite) → I .cost p (ws ++ (w ∷ vs)) ≡ spent + I .cost q (w ∷ vs)
+  pub used : (w : MediaWrite) (vs : List MediaWrite) → I .remaining p + I .takes q (w ∷ vs) ≡ I .remaining q + I .takes p (ws ++ (w ∷ vs))
 
 -- done: the whole media, bytes and sizes, is as the media writes of the call leave it, and no other call than sync and mount has any;
 -- the device is mounted, its state sound, the page frames keep their length, and the work is done
@@ -60,17 +60,16 @@ pub record Done (I : Interface) (c : Call) (s : I .State) (r : Reply (I .State))
   pub sound : isSound (I .pages s) (I .image (r .device) .media .sizes) (I .image (r .device) .cache) ≡ true
   pub frames : length (I .image (r .device) .frames) ≡ length (I .image s .frames)
   pub work : Works (I .pages s) c (I .image s) (persistent I s) (I .cost (I .partOf s) (plan I c s)) (imaged I r)
-  pub made : Made I (I .partOf s) (plan I c s) (I .partOf (r .device))
+  pub made : Made I (I .partOf s) (plan I c s) (I .cost (I .partOf s) (plan I c s)) (I .partOf (r .device))
 
--- CUT, of a call with these media writes: as many first ones are done as the budget pays for, the answer counts the budget, and the device
--- is down. The rest of them would cost what the budget lacked: all that it paid for is done, a part of a media write too. Power lost
--- inside a call is a budget that ends there, so what each budget leaves shows the order of the media writes, and nothing else does
+-- CUT, of a call with these media writes: as many first ones are done as the budget pays for, of the next one its first steps where it has
+-- any, and the answer counts the budget. The device is down. Power lost inside a call is a budget that ends there, so what each budget
+-- leaves shows the order of the media writes, and nothing else does (specs/Order)
 pub record Cut (I : Interface) (ws : List MediaWrite) (s : I .State) (r : Reply (I .State)) : Type 0 where
   pub writes : ℕ
   pub pays : Pays I (I .partOf s) (r .answer .count) ws writes
   pub leaves : I .image (r .device) ≡ deviceOf (mediaAfter I s (take writes ws)) (I .image s .frames) downState
-  pub rest : I .cost (I .partOf s) ws ≡ r .answer .count + I .cost (I .partOf (r .device)) (drop writes ws)
-  pub taken : I .remaining (I .partOf s) ≤ I .remaining (I .partOf (r .device)) + I .takes (I .partOf s) ws
+  pub made : Made I (I .partOf s) (take writes ws) (r .answer .count) (I .partOf (r .device))
 
 -- done or cut: what outlasts the power holds the media of the image, and is not damaged
 pub record Persists (I : Interface) (after : I .State) : Type 0 where

@@ -24,8 +24,8 @@ use Rattle.model.specs.View.{anew, conditions, plan}
 use Rattle.model.specs.Claims.{Demand1, Demand2, Demand3}
 use Rattle.model.specs.Format.{formatWrites, Format}
 
--- each of these media writes costs something, the first k at most price × k, and all of them take at most `rate` for each of what the part
--- runs out of
+-- each of these media writes costs something, the first k at most price × k; of what the part runs out of, all of them take at most
+-- rate × their number
 pub record Priced (I : Interface) (price rate : ℕ) (p : I .Part) (ws : List MediaWrite) : Type 0 where
   pub rises : (k : ℕ) → k < length ws → I .cost p (take k ws) < I .cost p (take (suc k) ws)
   pub bounded : (k : ℕ) → k ≤ length ws → I .cost p (take k ws) ≤ price * k
@@ -42,13 +42,13 @@ pub record Loses (I : Interface) (s : I .State) : Type 0 where
 -- some device of P pages in a file, with eight empty files and page frames of their length, mounts, with `supply` of what it runs out of.
 -- Writes from there reach any files
 pub record Begins (I : Interface) (P supply : ℕ) : Type 0 where
-  pub blank : I .State
-  pub pages : I .pages blank ≡ P
-  pub remaining : supply ≤ I .remaining (I .partOf blank)
-  pub frames : length (I .image blank .frames) ≡ framesBytes
-  pub empty : (f : ℕ) → f < files → onMedia I blank f ≡ []
+  pub initial : I .State
+  pub pages : I .pages initial ≡ P
+  pub remaining : supply ≤ I .remaining (I .partOf initial)
+  pub frames : length (I .image initial .frames) ≡ framesBytes
+  pub empty : (f : ℕ) → f < files → onMedia I initial f ≡ []
   pub budget : ℕ
-  pub mounts : IsDone (I .does (mount budget) blank .answer)
+  pub mounts : IsDone (I .does (mount budget) initial .answer)
 
 abbrev pub isSize : ℕ → Bool
 isSize n = ltb n 4294967296
@@ -74,9 +74,10 @@ AnyCache I s =
 abbrev pub Passes : List Test → Type 0
 Passes ts = firstRefusal ts (done 0) ≡ done 0
 
--- the demands of a store of P pages in a file. A part that never runs out has rate 0
+-- the demands of a store of P pages in a file, on any part. One that never runs out has rate 0
 pub record Demands (P price rate supply : ℕ) (I : Interface) : Type 0 where
   pub begins : Begins I P supply
+  pub any-part : (p : I .Part) → (s : I .State) × (I .partOf s ≡ p)
   pub any-cache : (s : I .State) → AnyCache I s
   pub loses : (s : I .State) → Loses I s
   pub priced : (c : Call) (s : I .State) → Passes (conditions I c s) → Priced I price rate (I .partOf s) (plan I c s)
@@ -93,5 +94,6 @@ pub record PlainDemands (P : ℕ) (I : Interface) : Type 0 where
   pub demands : Demands P 1 0 0 I
   pub pages : (s : I .State) → I .pages s ≡ P
   pub media : (s : I .State) → persistent I s ≡ I .image s .media
+  pub alone : (p q : I .Part) → I .contents p ≡ I .contents q → p ≡ q
   pub intact : (s : I .State) → I .isIntact (I .partOf s) ≡ true
   pub any : (d : Device) → fitsTypes (d .cache) ≡ true → (s : I .State) × (I .image s ≡ d) × (I .isShaped s ≡ true)

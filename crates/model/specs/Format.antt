@@ -31,7 +31,7 @@ module _ (I : Interface) where
         let m : Media = I .image (r .device) .media in
         (sizeAt m f ≡ 0) × ((i : ℕ) → i < fileBytes (I .pages s) → byteAt (I .pages s) m f i ≡ 0)
     pub pages : I .pages (r .device) ≡ I .pages s
-    pub made : IsDone (r .answer) → Made I (I .partOf s) (formatWrites s) (I .partOf (r .device))
+    pub made : IsDone (r .answer) → Made I (I .partOf s) (formatWrites s) (r .answer .count) (I .partOf (r .device))
     pub persists : r .answer .number ≡ 0 ⊎ r .answer .number ≡ 9 → Persists I (r .device)
     pub untouched : formatWrites s ≡ [] → I .partOf (r .device) ≡ I .partOf s
 

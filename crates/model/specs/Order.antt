@@ -18,8 +18,8 @@ module _ (P : ℕ) (ws vs : List MediaWrite) (s : CacheState) (d : Device) where
   abbrev pub SameMedia : Type 0
   SameMedia = (k : ℕ) → applyAll P (d .media) (take k ws) ≡ applyAll P (d .media) (take k vs)
 
--- two lists of as many media writes
+-- the one exactly where the other, and there are as many
 abbrev pub OrderShows : ℕ → Type 0
 OrderShows P =
-    (ws vs : List MediaWrite) (s : CacheState) (d : Device) → length ws ≡ length vs
-    → (SameReplies P ws vs s d → SameMedia P ws vs s d) × (SameMedia P ws vs s d → SameReplies P ws vs s d)
+    (ws vs : List MediaWrite) (s : CacheState) (d : Device)
+    → (SameReplies P ws vs s d → (length ws ≡ length vs) × SameMedia P ws vs s d) × ((length ws ≡ length vs) × SameMedia P ws vs s d → SameReplies P ws vs s d)

@@ -45,7 +45,7 @@ pub record Interface : Type 1 where
   pub pages : State → ℕ
   -- media, page frames and cache state, as the calls find them
   pub image : State → Device
-  -- what is borrowed beside the image has its length
+  -- what is borrowed has its length, where the image does not show it
   pub isShaped : State → Bool
   -- what outlasts the power: the media of the image, or a part of another kind, of which that is the image
   pub Part : Type 0

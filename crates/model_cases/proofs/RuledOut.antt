@@ -12,6 +12,7 @@ use Rattle.answer.specs.Coded.{Coded, done, BOOKS, DOWN, NO-ROOM, CUT}
 use Rattle.memory.specs.Bytes.{zeros}
 use Rattle.media.specs.Geometry.{files, mediaBytes, fileStart}
 use Rattle.media.specs.Write.{Media, mediaOf, sizeAt, applyAll}
+use Rattle.media.specs.Write.MediaWrite.{size}
 use Rattle.device.specs.declared.Slot.{Slot}
 use Rattle.device.specs.declared.CacheState.{CacheState}
 use Rattle.device.specs.Device.{Device, deviceOf, framesBytes, isFree, freeWhere, noSlots, withSlots, downState, mountedState}
@@ -97,11 +98,19 @@ one-stored zero pays e = absurd (omega (arith, pays .1))
 one-stored (suc zero) pays e = apart 0 65 refl (ap (λ (d : Device). getD (d .media .bytes) 0 0) e)
 one-stored (suc (suc k)) pays e = absurd (omega (arith, pays .0))
 
--- a budget of 1 pays for nothing of two media writes that cost two each, and all of them are left
-idle-cut : (k : ℕ) → 2 * length (take k (syncPlan 1 dirty 0)) ≤ 1 → 4 ≡ 1 + 2 * length (drop k (syncPlan 1 dirty 0)) → ⊥
+-- a budget of 1 pays for nothing of two media writes that cost two each, and another after them costs two
+idle-cut : (k : ℕ) → 2 * length (take k (syncPlan 1 dirty 0)) ≤ 1 → 2 * length (take k (syncPlan 1 dirty 0) ++ (size 0 0 ∷ [])) ≡ 1 + 2 → ⊥
 unfolding dirty mounted fileStart freeWhere inOrder inRange holdsAlone isDown hasLengths soundTests isSound mediaShape framesShape sizesFit stateTests blankPage filledPage cachePage patchPage putPage grown Writing.write trimWrites pageWrite pageWrites sizeWrites syncPlan writeIf
-idle-cut zero pays e = absurd (omega (arith, e))
-idle-cut (suc k) pays e = absurd (omega (arith, e))
+idle-cut zero pays e = apart 2 3 refl e
+idle-cut (suc k) pays e = absurd (omega (arith, pays))
+
+-- a budget of 1 pays for one of two media writes, which takes one of 9, and 7 are left
+wasted-cut : (k : ℕ) → (length (take k (syncPlan 1 dirty 0)) ≤ 1) × (1 < length (take (suc k) (syncPlan 1 dirty 0)))
+    → 9 + 1 ≡ 7 + 1 * length (take k (syncPlan 1 dirty 0) ++ (size 0 0 ∷ [])) → ⊥
+unfolding dirty mounted fileStart freeWhere inOrder inRange holdsAlone isDown hasLengths soundTests isSound mediaShape framesShape sizesFit stateTests blankPage filledPage cachePage patchPage putPage grown Writing.write trimWrites pageWrite pageWrites sizeWrites syncPlan writeIf
+wasted-cut zero pays e = absurd (omega (arith, pays .1))
+wasted-cut (suc zero) pays e = apart 10 9 refl e
+wasted-cut (suc (suc k)) pays e = absurd (omega (arith, pays .0))
 
 pub ruled-out : RuledOut
 unfolding dirty grown-file stored blank mounted odd marked tailed fileStart freeWhere inOrder inRange holdsAlone isDown hasLengths fitsTypes soundTests isSound currentAt mediaShape framesShape sizesFit stateTests Reading.read Looking.lookCount blankPage filledPage cachePage patchPage putPage grown Writing.write clearTail withSizes truncated Truncating.truncate trimWrites pageWrite pageWrites sizeWrites syncPlan syncedState writeIf underBudget pageOf pagesByLog syncByLog sameMedia Syncing.sync nonzeroFrom trimsFrom mountPlan formatPlan Mounting.mount slotWrites Looking.lookedSpan Looking.lookSpan Looking.spanBytes Looking.look
@@ -183,9 +192,11 @@ ruled-out = (
   λ h. apart 2 0 refl (h .begins .mounts),
   λ h. let x = h .any-cache (mounted 1) (zeros framesBytes) (marked .cache) refl refl in false≢true (rw (x .1) at (x .4)),
   λ h. let x = h .any-cache (mounted 1, true) (zeros framesBytes) (marked .cache) refl refl in longer (x .0 .1) (rw (x .1) at (x .3)),
-  λ h. let x = h .demand1 (sync 0 1) dirty .is-cut refl in idle-cut (x .writes) (x .pays .0) (x .rest),
+  λ h. let x = h .demand1 (sync 0 1) dirty .is-cut refl in idle-cut (x .writes) (x .pays .0) (x .made .paid (size 0 0) []),
   λ h. apart 1 0 refl (ap (λ (p : Media × ℕ). p .1) (h (write 0 0 (1 ∷ [])) (mounted 1, 0) .untouched refl)),
-  λ h. apart 1 2 refl (h .demand1 (sync 0 18) grown-file .is-done refl .made .taken),
+  λ h. apart 2 3 refl (h .demand1 (sync 0 18) grown-file .is-done refl .made .used (size 0 0) []),
+  λ h. let x = h .demand1 (sync 0 1) (dirty, 9) .is-cut refl in wasted-cut (x .writes) (x .pays) (x .made .used (size 0 0) []),
+  λ h. apart 0 1 refl (ap (λ (p : Media × ℕ). p .1) (h .alone (mounted 1 .media, 0) (mounted 1 .media, 1) refl)),
 )
   where
     -- the pages of a device whose state is not sound

@@ -7,7 +7,7 @@ use mathlib.Core.Bool.{Bool, true, false, not, cond, _&&_, _||_}
 use mathlib.Core.List.{List, [], _∷_, _++_, map}
 use lib.Dec.{eqb, ltb, leb}
 use lib.ListN.{length, getD, take, drop, set}
-use Rattle.answer.specs.Admission.{ifDone, firstRefusal}
+use Rattle.answer.specs.Admission.{Test, ifDone, firstRefusal}
 use Rattle.answer.specs.Coded.{Coded, done, SHAPE, DOWN, RANGE, NO-ROOM, CUT}
 use Rattle.memory.specs.Bytes.{zeros, part, overwrite}
 use Rattle.media.specs.Geometry.{files, pageBytes, fileBytes, mediaBytes, fileStart}
@@ -27,7 +27,7 @@ use Rattle.device.specs.Mounting.{formatPlan}
 use Rattle.model.specs.Run.{Call, Reply, Interface}
 use Rattle.model.specs.Run.Call.{read, look, write, truncate, sync, mount}
 use Rattle.model.specs.Claims.{asItCame, Demand1, Demand2, Demand3}
-use Rattle.model.specs.Demands.{Demands}
+use Rattle.model.specs.Demands.{Demands, PlainDemands}
 use Rattle.model.specs.View.{EXHAUSTED, sameBytes, anew, conditions, plan}
 use Rattle.model.specs.Format.{Format}
 use Rattle.model.specs.Store.{Calls, silent, storeLoses, storeWith, storeCalls, store}
@@ -449,24 +449,32 @@ misjudges =
       takes = λ m ws. 0;
     }
 
--- what a done write adds to a count in the part
-abbrev pub worn : Call → ℕ → ℕ
-worn (read f position buffer) n = n
-worn (look f position) n = n
-worn (write f position bytes) n = suc n
-worn (truncate f n) k = k
-worn (sync f budget) n = n
-worn (mount budget) n = n
+abbrev pub isWrite : Call → Bool
+isWrite (read f position buffer) = false
+isWrite (look f position) = false
+isWrite (write f position bytes) = true
+isWrite (truncate f n) = false
+isWrite (sync f budget) = false
+isWrite (mount budget) = false
 
--- a store whose writes change the part beside all media writes, as one that erases a block of it does
-abbrev pub wears : Interface
-wears =
-    let next : Device × ℕ → Call → Reply Device → Reply (Device × ℕ) =
-    λ s c r. record { answer = r .answer; output = r .output; device = (r .device, ifDone (r .answer) (worn c (s .1)) (s .1)) } in
+-- this store with a number in the part, beside the media: the number after a call, by the number of its media writes; and how much of it each
+-- of them takes. Where that is 0, the number shows nowhere
+abbrev pub numbered : (Call → Reply Device → ℕ → ℕ → ℕ) → ℕ → Interface
+numbered after each =
+    let takes : List MediaWrite → ℕ = λ ws. each * length ws in
+    let next : ℕ → (ℕ → ℕ) → Reply Device → Reply (Device × ℕ) = λ n h r. record { answer = r .answer; output = r .output; device = (r .device, h n) } in
+    let exhausted : List Test → List ℕ → Device × ℕ → Reply (Device × ℕ) =
+    λ ts output s. record { answer = firstRefusal ts EXHAUSTED; output = output; device = s } in
     record {
       State = Device × ℕ;
-      does = λ c s. next s c (store 1 .does c (s .0));
-      formats = λ budget s. next s (mount budget) (store 1 .formats budget (s .0));
+      does = λ c s.
+          let ws : List MediaWrite = plan (store 1) c (s .0) in
+          let r : Reply Device = store 1 .does c (s .0) in
+          cond (leb (takes ws) (each * s .1)) (next (s .1) (after c r (length ws)) r) (exhausted (conditions (store 1) c (s .0)) (asItCame c) s);
+      formats = λ budget s.
+          let ws : List MediaWrite = formatPlan 1 (s .0 .media) in
+          let r : Reply Device = store 1 .formats budget (s .0) in
+          cond (leb (takes ws) (each * s .1)) (next (s .1) (after (mount budget) r (length ws)) r) (exhausted (anew (store 1) (s .0)) [] s);
       Loss = List ℕ;
       lose = λ frames s. (storeLoses frames (s .0), s .1);
       pages = λ s. 1;
@@ -477,9 +485,21 @@ wears =
       contents = λ p. p .0;
       isIntact = λ p. true;
       cost = λ p ws. length ws;
-      remaining = λ p. 0;
-      takes = λ p ws. 0;
+      remaining = λ p. each * p .1;
+      takes = λ p. takes;
     }
+
+-- a done write changes the part beside all media writes, as one that erases a block of it does
+abbrev pub wears : Interface
+wears = numbered (λ c r n k. cond (isWrite c) (ifDone (r .answer) (suc k) k) k) 0
+
+-- a cut uses up what all its media writes take
+abbrev pub wastes : Interface
+wastes = numbered (λ c r n k. cond (eqb (r .answer .number) 0 || eqb (r .answer .number) 9) (k - n) k) 1
+
+-- the number of a part on plain media, which its done syncs change
+abbrev pub counts : Interface
+counts = numbered (λ c r n k. ifDone (r .answer) (k + n) k) 0
 
 -- a store that runs out at a second media write of a call, and is left with as much by the first
 abbrev pub tires : Interface
@@ -568,3 +588,5 @@ RuledOut =
     × (Demands 1 2 0 0 overcharges → ⊥)
     × (Demand1 wears → ⊥)
     × (Demands 1 1 1 0 tires → ⊥)
+    × (Demands 1 1 1 9 wastes → ⊥)
+    × (PlainDemands 1 counts → ⊥)
