@@ -6,23 +6,21 @@ use Prim.Native.Nat.{ℕ, zero, suc, _+_, _*_, _≤_, _<_}
 use native.Mathlib.Nat.{add-zero}
 use native.Mathlib.Numerals.{add-one}
 use native.Mathlib.Omega.{arith}
-use lib.Dec.{eqb, ltb, leb}
+use lib.Dec.{eqb, ltb}
 use lib.ListN.{length, getD, set, take, drop, length-map}
 use lib.Seq.{set-getD}
-use borrow.Author.Tests.{eqb-true, leb-true}
 use borrow.Table.Steps.{cases}
 use Rattle.memory.proofs.Bytes.{length-overwrite}
 use Rattle.scan.proofs.Loops.{map-more, map-done}
-use Rattle.scan.proofs.Scan.{and-left, and-right}
 use Rattle.device.specs.declared.Slot.{Slot}
 use Rattle.device.specs.declared.CacheState.{CacheState}
 use Rattle.device.specs.Device.{slotCount, freeSlot, freeWhere, withSlots}
 use Rattle.device.specs.Truncating.{pagesFrom}
-use Rattle.state_bytes.specs.Encoding.{stateBytes, slotsAt, slotBytes, encode, decode, elementSet, slotSet, zerosFrom, eightFree}
+use Rattle.state_bytes.specs.Encoding.{stateBytes, slotsAt, slotBytes, encode, decode, elementSet, slotSet, slotsZero}
 use Rattle.state_bytes.specs.Inverse.{Shaped, areBytes}
 use Rattle.state_bytes.proofs.Inverse.{inverse}
 use Rattle.state_bytes.proofs.InPlace.{shaped, changed, slot-read, slot-set}
-use Rattle.state_bytes.proofs.Zeros.{zeros-at}
+use Rattle.state_bytes.proofs.Zeros.{slots-zero-at}
 use Rattle.cache_state.specs.Freeing.{isFrom, freedSlots}
 
 -- ---- one slot more
@@ -36,7 +34,7 @@ module _ (f n k : ℕ) (bytes state : List ℕ) (h : state ≡ freedSlots f n k 
   unfolding freedSlots
   freed-none e = rw (add-one, ← h, e)
 
--- eight free slots more
+-- more slots whose bytes are 0
 module _ (f n : ℕ) (bytes state : List ℕ) where
   -- a slot whose first byte is 0 is free
   blank : (k : ℕ) → length state ≡ stateBytes → k < slotCount → getD state (slotsAt + 3 * k) 0 ≡ 0
@@ -53,12 +51,8 @@ module _ (f n : ℕ) (bytes state : List ℕ) where
       (λ i j. let w : slotsAt + 3 * (k + 1) + i ≡ slotsAt + 3 * k + (3 + i) = omega arith in rw w (z (3 + i) (omega arith)))
       (freed-none f n k bytes state h (blank k e (omega arith) (rw add-zero at (z 0 (omega arith))))))
 
-  pub freed-eight : (k : ℕ) → eightFree state k ≡ true → state ≡ freedSlots f n k bytes → state ≡ freedSlots f n (k + 8) bytes
-  unfolding eightFree
-  freed-eight k t h =
-      let r : leb (k + 8) slotCount && zerosFrom state (slotsAt + 3 * k) 24 ≡ true = and-right (eqb (length state) stateBytes) _ t in
-      blanks k 8 (eqb-true _ _ (and-left (eqb (length state) stateBytes) _ t)) (leb-true _ _ (and-left (leb (k + 8) slotCount) _ r))
-      (zeros-at state (slotsAt + 3 * k) 24 (and-right (leb (k + 8) slotCount) _ r)) h
+  pub freed-zero : (k m : ℕ) → slotsZero state k m ≡ true → state ≡ freedSlots f n k bytes → state ≡ freedSlots f n (k + m) bytes
+  freed-zero k m t h = let w = slots-zero-at state k m t in blanks k m (w .0) (w .1) (w .2) h
 
 -- ---- the length of the bytes stays
 

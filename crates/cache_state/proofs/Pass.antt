@@ -6,10 +6,10 @@ use mathlib.Core.List.{List}
 use Prim.Native.Nat.{ℕ, zero, suc, _+_, _*_, _/_, _%_, _<_, _≤_}
 use native.Mathlib.Nat.{not-suc-le-zero, add-zero}
 use native.Mathlib.Omega.{arith}
-use lib.Dec.{ltb, leb, eqb}
+use lib.Dec.{ltb, eqb}
 use lib.ListN.{length, getD, set, length-set, length-replicate, getD-replicate}
 use lib.Seq.{ext-getD, getD-set-same, getD-set-other}
-use borrow.Author.Tests.{ltb-true, lt-ltb, le-ltb, eq-eqb, ne-eqb}
+use borrow.Author.Tests.{ltb-true, lt-ltb, le-ltb, eq-eqb, ne-eqb, eqb-true}
 use Rattle.memory.proofs.Cases.{split-lt, split-eq}
 use Rattle.media.specs.Geometry.{files, pagesPerFile}
 use Rattle.scan.specs.Scan.{every, firstIndex}
@@ -18,9 +18,9 @@ use Rattle.device.specs.declared.Slot.{Slot}
 use Rattle.device.specs.Device.{slotCount, freeSlot, usedSlot, isUsed, holds}
 use Rattle.device.specs.Sound.{inRange, holdsAlone}
 use Rattle.device.proofs.Device.{holds-own, holds-one}
-use Rattle.state_bytes.specs.Encoding.{stateBytes, slotsAt, slotIn, slotsIn, eightFree}
+use Rattle.state_bytes.specs.Encoding.{slotsAt, slotIn, slotWord, slotsIn, slotsZero}
 use Rattle.state_bytes.proofs.Encoding.{length-each, getD-each}
-use Rattle.state_bytes.proofs.Zeros.{zeros-at}
+use Rattle.state_bytes.proofs.Zeros.{slots-zero-at}
 use Rattle.cache_state.specs.Tables.{noneCached, slotTable, slotFor, slotsPass, Passed}
 
 -- ---- the table of all slots
@@ -230,22 +230,26 @@ module _ (bytes : List ℕ) where
       unfolding inRange
       find-file hf = range-fails table k x hk (rw (u, le-ltb file files hf))
 
-    pub find-free : getD bytes at 0 ≡ 0 → file ≡ 0 → page ≡ 0 → Passed bytes table (k + 1)
-    find-free u ef ep = blank table k x hk u ef ep
+    abbrev word : ℕ
+    word = slotWord (slotIn bytes at)
 
-    pub find-carried : getD bytes at 0 ≡ 0 → file ≢ 0 → slotsPass bytes ≡ false
+    pub find-zero : word ≡ 0 → Passed bytes table (k + 1)
+    find-zero z = blank table k x hk (omega arith) (omega arith) (omega arith)
+
+    pub find-nonzero : getD bytes at 0 ≢ 1 → word ≢ 0 → slotsPass bytes ≡ false
     unfolding inRange
-    find-carried u ne = range-fails table k x hk (rw (u, ne-eqb file 0 ne))
+    find-nonzero u n =
+        range-fails table k x hk
+        (is-false (inRange pagesPerFile (slotIn bytes at))
+        (λ t.
+        let z : eqb (getD bytes at 0) 0 && (eqb file 0 && eqb page 0) ≡ true = rw (ne-eqb (getD bytes at 0) 1 u) at t in
+        let w = and-right (eqb (getD bytes at 0) 0) _ z in
+        let m : getD bytes at 0 ≡ 0 = eqb-true _ _ (and-left (eqb (getD bytes at 0) 0) _ z) in
+        let f : file ≡ 0 = eqb-true _ _ (and-left (eqb file 0) _ w) in
+        let p : page ≡ 0 = eqb-true _ _ (and-right (eqb file 0) _ w) in
+        n (omega arith)))
 
-    pub find-carried-page : getD bytes at 0 ≡ 0 → file ≡ 0 → page ≢ 0 → slotsPass bytes ≡ false
-    unfolding inRange
-    find-carried-page u ef ne = range-fails table k x hk (rw (u, eq-eqb file 0 ef, ne-eqb page 0 ne))
-
-    pub find-mark : getD bytes at 0 ≢ 1 → getD bytes at 0 ≢ 0 → slotsPass bytes ≡ false
-    unfolding inRange
-    find-mark n m = range-fails table k x hk (rw (ne-eqb (getD bytes at 0) 1 n, ne-eqb (getD bytes at 0) 0 m))
-
-  -- eight slots whose bytes are 0
+  -- slots whose bytes are 0
   blanks : (table : List ℕ) (k m : ℕ) → Passed bytes table k → k + m ≤ slotCount → ((i : ℕ) → i < 3 * m → getD bytes (slotsAt + 3 * k + i) 0 ≡ 0) → Passed bytes table (k + m)
   blanks table k zero x h z = let e : k + 0 ≡ k = omega arith in rw e x
   blanks table k (suc m) x h z =
@@ -256,6 +260,5 @@ module _ (bytes : List ℕ) where
       (omega arith)
       (λ i l. let q : slotsAt + 3 * (k + 1) + i ≡ slotsAt + 3 * k + (3 + i) = omega arith in rw q (z (3 + i) (omega arith))))
 
-  pub passed-eight : (table : List ℕ) (k : ℕ) → Passed bytes table k → k + 8 ≤ slotCount → eightFree bytes k ≡ true → Passed bytes table (k + 8)
-  unfolding eightFree
-  passed-eight table k x h z = blanks table k 8 x h (zeros-at bytes (slotsAt + 3 * k) 24 (and-right (leb (k + 8) slotCount) _ (and-right (eqb (length bytes) stateBytes) _ z)))
+  pub passed-zero : (table : List ℕ) (k n : ℕ) → Passed bytes table k → slotsZero bytes k n ≡ true → Passed bytes table (k + n)
+  passed-zero table k n x z = let w = slots-zero-at bytes k n z in blanks table k n x (w .1) (w .2)

@@ -6,7 +6,7 @@ use device::CacheState;
 use device::FileSizes;
 use device::Slot;
 ghost use mathlib.Core.Path.{_≡_};
-ghost use mathlib.Core.Bool.{true, false, _&&_};
+ghost use mathlib.Core.Bool.{true, false, cond, _&&_};
 ghost use mathlib.Core.List.{List, _++_};
 ghost use Prim.Native.Nat.{ℕ, _+_, _<_, _≤_};
 ghost use lib.ListN.{length, getD};
@@ -238,33 +238,21 @@ fn find_slot(state: &[u8], k: usize, slots: &mut [u8; TABLE]) -> bool
 {
     let at = state_bytes::SLOTS_AT + 3 * k;
     let used = state[at];
-    let file = state[at + 1] as usize;
-    let page = state[at + 2] as usize;
     if used == 1 {
+        let file = state[at + 1] as usize;
+        let page = state[at + 2] as usize;
         if file < media::FILES {
             if page < media::PAGES_PER_FILE {
                 let place = media::PAGES_PER_FILE * file + page;
                 let seen = number::widen(slots[place]);
-                if seen == device::SLOTS {
-                    slots[place] = k as u8;
-                    return true;
-                }
-                return false;
+                slots[place] = k as u8;
+                return seen == device::SLOTS;
             }
             return false;
         }
         return false;
     }
-    if used == 0 {
-        if file == 0 {
-            if page == 0 {
-                return true;
-            }
-            return false;
-        }
-        return false;
-    }
-    false
+    state_bytes::slot_word(state, k) == 0
 }
 
 // Eight slots from slot k on, in turn.
@@ -284,11 +272,14 @@ fn find_eight(state: &[u8], k: usize, slots: &mut [u8; TABLE]) -> bool
     true
 }
 
-// Whether the slots are sound. Then the table has the slot of each page. Eight free slots are passed over at a time.
+// Whether the slots are sound. Then the table has the slot of each page. Free slots are passed over, all of them or eight at a time.
 fn find_slots(state: &[u8], slots: &mut [u8; TABLE]) -> bool
     requires { ⌜ (length (now state) ≡ stateBytes) × (now slots ≡ noneCached) ⌝ }
     ensures { λ r. ⌜ (r ≡ slotsPass (now (state .entry))) × (r ≡ true → now (slots .exit) ≡ slotTable pagesPerFile (slotsIn (now (state .entry)))) ⌝ }
 {
+    if state_bytes::all_free(state) {
+        return true;
+    }
     let mut k = 0;
     while k < device::SLOTS {
         if state_bytes::eight_free(state, k) {
@@ -304,12 +295,27 @@ fn find_slots(state: &[u8], slots: &mut [u8; TABLE]) -> bool
     true
 }
 
+// 1 for true, and 0 for false.
+fn flag(b: bool) -> u32
+    ensures { λ r. ⌜ r ≡ cond b 1 0 ⌝ }
+{
+    if b { 1 } else { 0 }
+}
+
+// 0 where the sizes are in order.
+fn disorder(s: FileSizes, greatest: usize) -> u32
+    ensures { λ r. ⌜ eqb r 0 ≡ inOrder greatest s ⌝ }
+{
+    let l = s.logical as usize;
+    flag(s.logical < s.floor) | flag(greatest < l) | flag(s.stored < s.floor)
+}
+
 // Whether the sizes of each file are in order. The loop goes to the end, so that it becomes vector code.
 fn files_in_order(sizes: &[u32], state: &[u8]) -> bool
     ensures { λ r. ⌜ r ≡ everyBelow files (λ f. inOrder (fileBytes pagesPerFile) (sizesIn (now (sizes .entry)) (decode (now (state .entry))) f)) ⌝ }
 {
     let greatest = media::PAGE_BYTES * media::PAGES_PER_FILE;
-    let mut all = true;
+    let mut wrong = 0u32;
     let mut f = 0;
     while f < media::FILES {
         let s = FileSizes {
@@ -317,12 +323,10 @@ fn files_in_order(sizes: &[u32], state: &[u8]) -> bool
             floor: state_bytes::floor_at(state, f),
             stored: stored_size(sizes, f),
         };
-        if !in_order(s, greatest) {
-            all = false;
-        }
+        wrong = wrong | disorder(s, greatest);
         f += 1;
     }
-    all
+    wrong == 0
 }
 
 // Whether the bytes say a state that is sound beside the stored sizes. Then the table has its slots.

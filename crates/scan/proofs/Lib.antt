@@ -1,2 +1,3 @@
 pub mod Scan
 pub mod Loops
+pub mod Zeros

@@ -51,6 +51,10 @@ encode s = s .mounted ∷ (joined slotBytes (s .slots) ++ (joined numberBytes (s
 abbrev pub slotIn : List ℕ → ℕ → Slot
 slotIn bytes a = record { used = getD bytes a 0; file = getD bytes (a + 1) 0; page = getD bytes (a + 2) 0 }
 
+-- a slot as one number, low byte first
+abbrev pub slotWord : Slot → ℕ
+slotWord s = s .used + 256 * s .file + 65536 * s .page
+
 abbrev pub numberIn : List ℕ → ℕ → ℕ
 numberIn bytes a = getD bytes a 0 + 256 * getD bytes (a + 1) 0 + 65536 * getD bytes (a + 2) 0 + 16777216 * getD bytes (a + 3) 0
 
@@ -97,6 +101,6 @@ sizeSet a = elementSet numberBytes a 4 files
 unfoldable pub zerosFrom : List ℕ → ℕ → ℕ → Bool
 zerosFrom bytes a n = everyBelow n (λ i. eqb (getD bytes (a + i) 0) 0)
 
--- the bytes of eight slots from slot k on, where there are as many, are 0
-unfoldable pub eightFree : List ℕ → ℕ → Bool
-eightFree bytes k = eqb (length bytes) stateBytes && (leb (k + 8) slotCount && zerosFrom bytes (slotsAt + 3 * k) 24)
+-- the bytes of n slots from slot k on, where there are as many, are 0
+unfoldable pub slotsZero : List ℕ → ℕ → ℕ → Bool
+slotsZero bytes k n = eqb (length bytes) stateBytes && (leb (k + n) slotCount && zerosFrom bytes (slotsAt + 3 * k) (3 * n))

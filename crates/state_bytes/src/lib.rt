@@ -9,8 +9,8 @@ ghost use Prim.Native.Nat.{_+_, _*_, _≤_, _<_};
 ghost use lib.ListN.{length, getD};
 ghost use Rattle.memory.specs.Bytes.{overwrite};
 ghost use Rattle.media.specs.Geometry.{files};
-ghost use Rattle.device.specs.Device.{freeSlot};
-ghost use Rattle.state_bytes.specs.Encoding.{stateBytes, slotsAt, slotBytes, numberBytes, joined, encoded, slotIn, numberIn, slotsIn, sizesIn, decode, logicalAt, floorAt, slotSet, sizeSet, zerosFrom, eightFree};
+ghost use Rattle.device.specs.Device.{slotCount, freeSlot};
+ghost use Rattle.state_bytes.specs.Encoding.{stateBytes, slotsAt, slotBytes, numberBytes, joined, encoded, slotIn, slotWord, numberIn, slotsIn, sizesIn, decode, logicalAt, floorAt, slotSet, sizeSet, zerosFrom, slotsZero};
 
 // The length of the buffer.
 pub const STATE_BYTES: usize = 137;
@@ -165,6 +165,18 @@ pub fn slot_at(state: &[u8], k: usize) -> Slot
     device::free_slot()
 }
 
+// Slot k as one number, the three low bytes of a word; 0 where there is no such slot.
+pub fn slot_word(state: &[u8], k: usize) -> u32
+    ensures { λ r. ⌜ r ≡ slotWord (getD ((decode (now (state .entry))) .slots) k freeSlot) ⌝ }
+{
+    if state.len() == STATE_BYTES {
+        if k < device::SLOTS {
+            return number_in(state, SLOTS_AT + 3 * k) % 16777216;
+        }
+    }
+    0
+}
+
 // The logical size of a file, or 0 where there is none.
 pub fn logical_at(state: &[u8], file: usize) -> u32
     ensures { λ r. ⌜ r ≡ getD ((decode (now (state .entry))) .logical) file 0 ⌝ }
@@ -251,12 +263,22 @@ fn is_zero(state: &[u8], at: usize) -> bool
 
 // Whether the bytes of eight slots from slot k on are 0: all of them are free. False where there are not as many.
 pub fn eight_free(state: &[u8], k: usize) -> bool
-    ensures { λ r. ⌜ r ≡ eightFree (now (state .entry)) k ⌝ }
+    ensures { λ r. ⌜ r ≡ slotsZero (now (state .entry)) k 8 ⌝ }
 {
     if state.len() == STATE_BYTES {
         if k <= device::SLOTS - 8 {
             return is_zero(state, SLOTS_AT + 3 * k);
         }
+    }
+    false
+}
+
+// Whether the bytes of all slots are 0. False where the bytes are not those of a state.
+pub fn all_free(state: &[u8]) -> bool
+    ensures { λ r. ⌜ r ≡ slotsZero (now (state .entry)) 0 slotCount ⌝ }
+{
+    if state.len() == STATE_BYTES {
+        return scan::all_zero(&state[SLOTS_AT..LOGICAL_AT]);
     }
     false
 }

@@ -1,32 +1,15 @@
--- Bytes that are all 0: their bitwise or is 0.
+-- Bytes that are checked a part at a time.
 use mathlib.Core.Path.{_≡_, refl, sym, ap, _∙_}
 use mathlib.Core.Bool.{Bool, true, false, _&&_}
 use mathlib.Core.List.{List, [], _∷_, _++_}
-use Prim.Native.Nat.{ℕ, suc, _+_, _-_, _<_}
+use Prim.Native.Nat.{ℕ, _+_, _-_}
 use native.Mathlib.Omega.{arith}
-use native.Mathlib.Numerals.{add-one}
-use lib.ListN.{length, getD, drop, take, take-append-drop, length-drop}
-use lib.Seq.{drop-cons, drop-drop, take-all}
-use lib.Dec.{eqb}
-use lib.Bits.{bitOr, and-le-r, or-add-and}
-use borrow.Author.Tests.{ne-eqb}
+use lib.ListN.{length, drop, take, take-append-drop, length-drop}
+use lib.Seq.{drop-drop, take-all}
 use Rattle.memory.specs.Bytes.{part}
-use Rattle.memory.proofs.Cases.{split-eq}
 use Rattle.scan.specs.Scan.{every}
-use Rattle.scan.proofs.Loops.{Checked, Flagged}
-
-and-assoc : (a b c : Bool) → a && (b && c) ≡ (a && b) && c
-and-assoc true b c = refl
-and-assoc false b c = refl
-
--- the bitwise or of two is 0 where both are
-zero-or : (a b : ℕ) → eqb (bitOr a b) 0 ≡ eqb a 0 && eqb b 0
-zero-or a b = split-eq a 0 (λ e. rw e) (λ n. rw (ne-eqb a 0 n) (ne-eqb (bitOr a b) 0 (λ e. n (omega (arith, or-add-and a b, and-le-r a b)))))
-
-pub zero-next : (xs : List ℕ) (i g : ℕ) → Flagged (λ b. eqb b 0) xs i (eqb g 0) → i < length xs → Flagged (λ b. eqb b 0) xs (i + 1) (eqb (bitOr g (getD xs i 0)) 0)
-zero-next xs i g s h =
-    let b : ℕ = getD xs i 0 in
-    record { so-far = s .so-far ∙ rw (drop-cons xs i 0 h, add-one, zero-or g b) (and-assoc (eqb g 0) (eqb b 0) (every (λ b. eqb b 0) (drop (suc i) xs))) }
+use Rattle.scan.proofs.Scan.{and-assoc}
+use Rattle.scan.proofs.Loops.{Checked}
 
 every-append : (t : ℕ → Bool) (xs ys : List ℕ) → every t (xs ++ ys) ≡ every t xs && every t ys
 every-append t [] ys = refl

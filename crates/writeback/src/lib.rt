@@ -238,19 +238,6 @@ fn finish(state: &mut [u8], writes: usize, budget: usize, cache: CacheState) -> 
     Answer::Done(writes)
 }
 
-// The bitwise or of the bytes, which is 0 where all of them are. The loop goes to the end, so that it becomes vector code.
-fn bitwise_or(bytes: &[u8]) -> u8
-    ensures { λ r. ⌜ eqb r 0 ≡ every (λ b. eqb b 0) (now (bytes .entry)) ⌝ }
-{
-    let mut bits = 0u8;
-    let mut i = 0;
-    while i < bytes.len() {
-        bits = bits | bytes[i];
-        i += 1;
-    }
-    bits
-}
-
 // Whether all bytes are 0. A page at a time, since a loop of a known length is faster.
 fn is_zero(bytes: &[u8]) -> bool
     ensures { λ r. ⌜ r ≡ every (λ b. eqb b 0) (now (bytes .entry)) ⌝ }
@@ -258,12 +245,12 @@ fn is_zero(bytes: &[u8]) -> bool
     let mut from = 0;
     while media::PAGE_BYTES <= bytes.len() - from {
         let to = from + media::PAGE_BYTES;
-        if bitwise_or(&bytes[from..to]) != 0 {
+        if !scan::all_zero(&bytes[from..to]) {
             return false;
         }
         from = to;
     }
-    bitwise_or(&bytes[from..]) == 0
+    scan::all_zero(&bytes[from..])
 }
 
 // Whether a file has a nonzero byte at or past n.

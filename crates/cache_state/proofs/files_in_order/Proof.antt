@@ -1,15 +1,15 @@
--- `cache_state::files_in_order` meets its contract: the flag says whether all files below f pass.
+-- `cache_state::files_in_order` meets its contract: no bit is set where all files below f pass.
 use mathlib.Core.Path.{_≡_, sym, _∙_}
 use Prim.Native.Nat.{ℕ, _≤_, _-_}
 use native.Mathlib.Omega.{arith}
-use mathlib.Core.Logic.{⊎-elim}
+use lib.Dec.{eqb}
 use borrow.Author.Needs.{needs}
-use borrow.Author.Tests.{not-true, not-false}
 use Rattle.media.specs.Geometry.{files, fileBytes, pagesPerFile}
 use Rattle.device.specs.Sizes.{inOrder}
 use Rattle.device.specs.Sound.{sizesIn}
 use Rattle.state_bytes.specs.Encoding.{decode}
-use Rattle.scan.proofs.Loops.{FlaggedBelow, flagged-below-none, flagged-below-fails, flagged-below-next, flagged-below-end}
+use Rattle.scan.proofs.Loops.{FlaggedBelow, flagged-below-none, flagged-below-next, flagged-below-end}
+use Rattle.scan.proofs.Zeros.{zero-or}
 use Rattle.cache_state.proofs.files_in_order.Statement.{statement}
 use Rattle.cache_state.proofs.files_in_order.Tie as tie
 
@@ -19,11 +19,11 @@ sizes-here : (greatest : ℕ) {l k s l′ k′ s′ : ℕ} → l ≡ l′ → k 
 sizes-here greatest p q r = rw (p, q, r)
 
 abbrev Inv-loop : tie.InvT-loop
-Inv-loop sizes state greatest all₀ f₀ all f =
-    FlaggedBelow (λ f. inOrder (fileBytes pagesPerFile) (sizesIn sizes (decode state) f)) f all × (f ≤ files)
+Inv-loop sizes state greatest wrong₀ f₀ wrong f =
+    FlaggedBelow (λ f. inOrder (fileBytes pagesPerFile) (sizesIn sizes (decode state) f)) f (eqb wrong 0) × (f ≤ files)
 
 abbrev μ-loop : tie.MeasureT-loop
-μ-loop sizes state greatest all₀ f₀ all f = files - f
+μ-loop sizes state greatest wrong₀ f₀ wrong f = files - f
 
 mul-greatest : tie.Need-mul-greatest Inv-loop μ-loop
 mul-greatest c = search needs
@@ -40,8 +40,8 @@ floor-at-requires c κs = search needs
 stored-size-requires : tie.Need-stored-size-requires Inv-loop μ-loop
 stored-size-requires c κs = search needs
 
-in-order-requires : tie.Need-in-order-requires Inv-loop μ-loop
-in-order-requires c κs = search needs
+disorder-requires : tie.Need-disorder-requires Inv-loop μ-loop
+disorder-requires c κs = search needs
 
 add-f : tie.Need-add-f Inv-loop μ-loop
 add-f c = search needs
@@ -51,17 +51,11 @@ loop-less c = search needs
 
 loop-again : tie.Need-loop-again Inv-loop μ-loop
 loop-again c =
-    let n = c .before in
-    let l = n .before .before .before .before .before in
+    let l = c .before .before .before .before .before in
     let t =
-    sizes-here (fileBytes pagesPerFile) (n .before .before .before .logical-at .ensures) (n .before .before .floor-at .ensures) (n .before .stored-size .ensures)
-    ∙ sym (n .in-order .ensures) in (
-      ⊎-elim
-          (λ w. rw (w .1) (flagged-below-fails (l .loop .inv .0) (t ∙ not-true _ (w .0 .taken))))
-          (λ w. rw (w .1) (flagged-below-next (l .loop .inv .0) (t ∙ not-false _ (w .0 .left))))
-          (c .if1 .came),
-      search needs,
-    )
+    sizes-here (fileBytes pagesPerFile) (c .before .before .before .logical-at .ensures) (c .before .before .floor-at .ensures) (c .before .stored-size .ensures)
+    ∙ sym (c .disorder .ensures) in
+    (rw (zero-or (l .loop .wrong) (c .disorder .result), ← t) (flagged-below-next (l .loop .inv .0)), search needs)
 
 returns : tie.Need-returns Inv-loop μ-loop
 returns c = flagged-below-end (c .before .loop .inv .0) files (omega arith)
@@ -77,7 +71,7 @@ files-in-order-spec =
     logical-at-requires
     floor-at-requires
     stored-size-requires
-    in-order-requires
+    disorder-requires
     add-f
     loop-less
     loop-again

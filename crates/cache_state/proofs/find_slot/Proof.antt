@@ -1,11 +1,13 @@
 -- `cache_state::find_slot` meets its contract: by the three bytes of slot k.
-use mathlib.Core.Path.{_≡_, refl, sym, _∙_}
+use mathlib.Core.Path.{sym, ap, _∙_}
 use mathlib.Core.Bool.{false≢true}
-use Prim.Native.Nat.{_+_, _*_, _<_}
+use Prim.Native.Nat.{_+_, _*_}
 use native.Mathlib.Omega.{arith}
-use lib.ListN.{getD}
+use borrow.Author.Tests.{eqb-true, eqb-false}
+use Rattle.state_bytes.specs.Encoding.{slotWord}
+use Rattle.state_bytes.proofs.InPlace.{slot-read}
 use Rattle.cache_state.specs.Tables.{Passed}
-use Rattle.cache_state.proofs.Pass.{find-used, find-twice, find-page, find-file, find-free, find-carried, find-carried-page, find-mark}
+use Rattle.cache_state.proofs.Pass.{find-used, find-twice, find-page, find-file, find-zero, find-nonzero}
 use borrow.Author.Needs.{needs}
 use Rattle.cache_state.proofs.find_slot.Statement.{statement}
 use Rattle.cache_state.proofs.find_slot.Tie as tie
@@ -30,7 +32,7 @@ shared-slice-read-file : tie.Need-shared-slice-read-file
 shared-slice-read-file c = search needs
 
 cast-file : tie.Need-cast-file
-cast-file c = omega (arith, c .shared-slice-known3 .given (1 + 3 * c .before .before .before .args .k + 1))
+cast-file c = omega (arith, c .shared-slice-known3 .given (1 + 3 * c .before .before .before .before .args .k + 1))
 
 add-page : tie.Need-add-page
 add-page c = search needs
@@ -39,7 +41,7 @@ shared-slice-read-page : tie.Need-shared-slice-read-page
 shared-slice-read-page c = search needs
 
 cast-page : tie.Need-cast-page
-cast-page c = omega (arith, c .shared-slice-known4 .given (1 + 3 * c .before .before .before .before .args .k + 2))
+cast-page c = omega (arith, c .shared-slice-known4 .given (1 + 3 * c .before .before .before .before .before .args .k + 2))
 
 mul-place : tie.Need-mul-place
 mul-place c = search needs
@@ -61,51 +63,32 @@ element-write-slots c = search needs
 
 returns : tie.Need-returns
 returns c =
-    let s = c .before .before .before .before .before .before .before .before .before .before in
+    let s = c .before .before .before .before .before .before .before .before .before in
     let a = s .args in
-    (λ q. find-used (a .state .now) (a .slots .now) (a .k) (passed s) (omega arith) (omega arith) (omega arith) (omega arith) (sym (c .before .widen .ensures) ∙ c .if4 .taken), λ q. absurd (false≢true (sym q)))
+    let e = c .widen .ensures in
+    (λ q. find-used (a .state .now) (a .slots .now) (a .k) (passed s) (omega arith) (omega arith) (omega arith) (omega arith) (sym e ∙ eqb-true _ _ q), λ q. find-twice (a .state .now) (a .slots .now) (a .k) (passed s) (omega arith) (omega arith) (omega arith) (omega arith) (λ h. eqb-false _ _ q (e ∙ h)))
 
 returns-2 : tie.Need-returns-2
 returns-2 c =
-    let s = c .before .before .before .before .before .before .before .before .before .before in
-    let a = s .args in
-    (λ q. absurd (false≢true q), λ q. find-twice (a .state .now) (a .slots .now) (a .k) (passed s) (omega arith) (omega arith) (omega arith) (omega arith) (λ q. c .if4 .left (c .before .widen .ensures ∙ q)))
-
-returns-3 : tie.Need-returns-3
-returns-3 c =
     let s = c .before .before .before .before .before .before .before in
     let a = s .args in
     (λ q. absurd (false≢true q), λ q. find-page (a .state .now) (a .slots .now) (a .k) (passed s) (omega arith) (omega arith) (omega arith) (omega arith))
 
-returns-4 : tie.Need-returns-4
-returns-4 c =
+returns-3 : tie.Need-returns-3
+returns-3 c =
     let s = c .before .before .before .before .before .before in
     let a = s .args in
     (λ q. absurd (false≢true q), λ q. find-file (a .state .now) (a .slots .now) (a .k) (passed s) (omega arith) (omega arith) (omega arith))
 
-returns-5 : tie.Need-returns-5
-returns-5 c =
-    let s = c .before .before .before .before .before .before .before .before in
-    let a = s .args in
-    (λ q. find-free (a .state .now) (a .slots .now) (a .k) (passed s) (omega arith) (omega arith) (omega arith) (omega arith), λ q. absurd (false≢true (sym q)))
+slot-word-requires : tie.Need-slot-word-requires
+slot-word-requires c κs = search needs
 
-returns-6 : tie.Need-returns-6
-returns-6 c =
-    let s = c .before .before .before .before .before .before .before .before in
+returns-4 : tie.Need-returns-4
+returns-4 c =
+    let s = c .before .before .before .before in
     let a = s .args in
-    (λ q. absurd (false≢true q), λ q. find-carried-page (a .state .now) (a .slots .now) (a .k) (passed s) (omega arith) (omega arith) (omega arith) (c .if7 .left))
-
-returns-7 : tie.Need-returns-7
-returns-7 c =
-    let s = c .before .before .before .before .before .before .before in
-    let a = s .args in
-    (λ q. absurd (false≢true q), λ q. find-carried (a .state .now) (a .slots .now) (a .k) (passed s) (omega arith) (omega arith) (c .if6 .left))
-
-returns-8 : tie.Need-returns-8
-returns-8 c =
-    let s = c .before .before .before .before .before .before in
-    let a = s .args in
-    (λ q. absurd (false≢true q), λ q. find-mark (a .state .now) (a .slots .now) (a .k) (passed s) (omega arith) (c .before .if1 .left) (c .if5 .left))
+    let e = c .slot-word .ensures ∙ ap slotWord (slot-read (a .state .now) (s .pre .0) (a .k) (s .pre .1)) in
+    (λ q. find-zero (a .state .now) (a .slots .now) (a .k) (passed s) (omega arith) (sym e ∙ eqb-true _ _ q), λ q. find-nonzero (a .state .now) (a .slots .now) (a .k) (passed s) (omega arith) (c .before .if1 .left) (λ h. eqb-false _ _ q (e ∙ h)))
 
 pub find-slot-spec : {M : Type 1} → statement M
 find-slot-spec =
@@ -129,8 +112,5 @@ find-slot-spec =
     returns
     returns-2
     returns-3
-    returns-4
-    returns-5
-    returns-6
-    returns-7
-    returns-8)
+    slot-word-requires
+    returns-4)

@@ -1,14 +1,14 @@
 -- `cache_state::find_slots` meets its contract: the slots before k pass.
-use mathlib.Core.Path.{_≡_, refl, sym, _∙_}
+use mathlib.Core.Path.{_≡_, sym, _∙_}
 use mathlib.Core.Bool.{false≢true}
-use Prim.Native.Nat.{_+_, _-_, _%_, _≤_}
+use Prim.Native.Nat.{_-_, _%_, _≤_}
 use native.Mathlib.Omega.{arith}
 use lib.ListN.{length}
 use borrow.Author.Needs.{needs}
 use Rattle.device.specs.Device.{slotCount}
 use Rattle.state_bytes.specs.Encoding.{stateBytes}
-use Rattle.cache_state.specs.Tables.{Passed}
-use Rattle.cache_state.proofs.Pass.{passed-none, passed-all, passed-table, passed-eight}
+use Rattle.cache_state.specs.Tables.{noneCached, Passed}
+use Rattle.cache_state.proofs.Pass.{passed-none, passed-all, passed-table, passed-zero}
 use Rattle.cache_state.proofs.find_slots.Statement.{statement}
 use Rattle.cache_state.proofs.find_slots.Tie as tie
 
@@ -18,8 +18,17 @@ Inv-loop state slots₀ k₀ slots k = Passed state slots k × (k ≤ slotCount)
 abbrev μ-loop : tie.MeasureT-loop
 μ-loop state slots₀ k₀ slots k = slotCount - k
 
+all-free-requires : tie.Need-all-free-requires Inv-loop μ-loop
+all-free-requires c κs = search needs
+
+returns : tie.Need-returns Inv-loop μ-loop
+returns c =
+    let s = c .before .before .before in
+    let x = passed-zero (s .args .state .now) noneCached 0 slotCount (passed-none (s .args .state .now)) (sym (c .before .all-free .ensures) ∙ c .if1 .taken) in
+    (sym (passed-all _ _ x), λ q. s .pre .1 ∙ passed-table _ _ x)
+
 loop-holds : tie.Need-loop-holds Inv-loop μ-loop
-loop-holds c = (rw (c .before .pre .1) (passed-none (c .before .args .state .now)), search needs, search needs, search needs)
+loop-holds c = (rw (c .before .before .before .pre .1) (passed-none (c .before .before .before .args .state .now)), search needs, search needs, search needs)
 
 eight-free-requires : tie.Need-eight-free-requires Inv-loop μ-loop
 eight-free-requires c κs = search needs
@@ -33,7 +42,7 @@ loop-less c = omega arith
 loop-again : tie.Need-loop-again Inv-loop μ-loop
 loop-again c =
     let l = c .before .before .before in
-    (passed-eight (l .before .before .args .state .now) _ (l .loop .k) (l .loop .inv .0) (omega arith) (sym (c .before .eight-free .ensures) ∙ c .if1 .taken), omega arith, omega arith, search needs)
+    (passed-zero (l .before .before .before .before .args .state .now) _ (l .loop .k) 8 (l .loop .inv .0) (sym (c .before .eight-free .ensures) ∙ c .if2 .taken), omega arith, omega arith, search needs)
 
 find-eight-requires : tie.Need-find-eight-requires Inv-loop μ-loop
 find-eight-requires c κs = (search needs, omega arith, c .before .before .before .before .loop .inv .0)
@@ -45,16 +54,16 @@ loop-less-2 : tie.Need-loop-less-2 Inv-loop μ-loop
 loop-less-2 c = omega arith
 
 loop-again-2 : tie.Need-loop-again-2 Inv-loop μ-loop
-loop-again-2 c = (c .before .find-eight .ensures .0 (c .if2 .taken), omega arith, omega arith, search needs)
-
-returns : tie.Need-returns Inv-loop μ-loop
-returns c = (sym (c .before .find-eight .ensures .1 (c .if2 .left)), λ q. absurd (false≢true q))
+loop-again-2 c = (c .before .find-eight .ensures .0 (c .if3 .taken), omega arith, omega arith, search needs)
 
 returns-2 : tie.Need-returns-2 Inv-loop μ-loop
-returns-2 c =
+returns-2 c = (sym (c .before .find-eight .ensures .1 (c .if3 .left)), λ q. absurd (false≢true q))
+
+returns-3 : tie.Need-returns-3 Inv-loop μ-loop
+returns-3 c =
     let l = c .before in
     let e : l .loop .k ≡ slotCount = omega arith in
-    let x : Passed (l .before .before .args .state .now) (l .loop .slots) slotCount = rw e at (l .loop .inv .0) in
+    let x : Passed (l .before .before .before .before .args .state .now) (l .loop .slots) slotCount = rw e at (l .loop .inv .0) in
     (sym (passed-all _ _ x), λ q. passed-table _ _ x)
 
 pub find-slots-spec : {M : Type 1} → statement M
@@ -63,6 +72,8 @@ find-slots-spec =
     (tie.spec
     Inv-loop
     μ-loop
+    all-free-requires
+    returns
     loop-holds
     eight-free-requires
     add-k
@@ -72,5 +83,5 @@ find-slots-spec =
     add-k-2
     loop-less-2
     loop-again-2
-    returns
-    returns-2)
+    returns-2
+    returns-3)

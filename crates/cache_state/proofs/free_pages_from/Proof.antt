@@ -6,7 +6,7 @@ use lib.ListN.{length}
 use borrow.Author.Needs.{needs}
 use Rattle.device.specs.Device.{slotCount}
 use Rattle.cache_state.specs.Freeing.{freedSlots}
-use Rattle.cache_state.proofs.Freeing.{freed-eight, length-freed}
+use Rattle.cache_state.proofs.Freeing.{freed-zero, length-freed}
 use Rattle.cache_state.proofs.free_pages_from.Statement.{statement}
 use Rattle.cache_state.proofs.free_pages_from.Tie as tie
 
@@ -33,7 +33,7 @@ loop-again : tie.Need-loop-again Inv-loop μ-loop
 loop-again c =
     let l = c .before .before .before .before in
     let a = c .before .before .before .before .before .before .args in
-    (freed-eight (a .file) (a .n) (a .state .now) (l .loop .state) (l .loop .k) (sym (c .before .eight-free .ensures) ∙ c .if1 .taken) (l .loop .inv .0), omega arith, omega arith)
+    (freed-zero (a .file) (a .n) (a .state .now) (l .loop .state) (l .loop .k) 8 (sym (c .before .eight-free .ensures) ∙ c .if1 .taken) (l .loop .inv .0), omega arith, omega arith)
 
 free-eight-requires : tie.Need-free-eight-requires Inv-loop μ-loop
 free-eight-requires c κs = omega arith

@@ -1,11 +1,10 @@
 -- `state_bytes::eight_free` meets its contract.
-use mathlib.Core.Path.{_≡_, sym, _∙_}
 use Prim.Native.Nat.{_+_}
 use native.Mathlib.Omega.{arith}
 use lib.ListN.{length}
 use borrow.Author.Tests.{eq-eqb, ne-eqb, le-leb, lt-leb}
 use Rattle.device.specs.Device.{slotCount}
-use Rattle.state_bytes.specs.Encoding.{stateBytes, eightFree}
+use Rattle.state_bytes.specs.Encoding.{stateBytes, slotsZero}
 use borrow.Author.Needs.{needs}
 use Rattle.state_bytes.proofs.eight_free.Statement.{statement}
 use Rattle.state_bytes.proofs.eight_free.Tie as tie
@@ -23,19 +22,19 @@ is-zero-requires : tie.Need-is-zero-requires
 is-zero-requires c κs = search needs
 
 returns : tie.Need-returns
-unfolding eightFree
+unfolding slotsZero
 returns c =
     let a = c .before .before .before .before .args in
     rw (eq-eqb (length (a .state .now)) stateBytes (omega arith), le-leb (a .k + 8) slotCount (omega arith)) (c .is-zero .ensures)
 
 returns-2 : tie.Need-returns-2
-unfolding eightFree
+unfolding slotsZero
 returns-2 c =
     let a = c .before .before .before .args in
     rw (eq-eqb (length (a .state .now)) stateBytes (omega arith), lt-leb (a .k + 8) slotCount (omega arith))
 
 returns-3 : tie.Need-returns-3
-unfolding eightFree
+unfolding slotsZero
 returns-3 c =
     let a = c .before .before .args in
     rw (ne-eqb (length (a .state .now)) stateBytes (λ e. omega arith))

@@ -1,11 +1,10 @@
 -- `writeback::is_zero` meets its contract: all bytes before `from` are 0.
 use mathlib.Core.Path.{sym, _∙_}
 use Prim.Native.Nat.{_≤_, _-_}
-use native.Mathlib.Omega.{arith}
 use lib.ListN.{length}
 use lib.Dec.{eqb}
 use borrow.Author.Needs.{needs}
-use borrow.Author.Tests.{eq-eqb, ne-eqb}
+use borrow.Author.Tests.{not-true, not-false}
 use Rattle.scan.proofs.Loops.{Checked, checked-none}
 use Rattle.writeback.proofs.Zeros.{checked-part, checked-part-fails, checked-rest}
 use Rattle.writeback.proofs.is_zero.Statement.{statement}
@@ -26,45 +25,43 @@ sub-loop c = search needs
 add-to : tie.Need-add-to Inv-loop μ-loop
 add-to c = search needs
 
-sub-bitwise-or : tie.Need-sub-bitwise-or Inv-loop μ-loop
-sub-bitwise-or c = search needs
+sub-all-zero : tie.Need-sub-all-zero Inv-loop μ-loop
+sub-all-zero c = search needs
 
-part-bitwise-or-start : tie.Need-part-bitwise-or-start Inv-loop μ-loop
-part-bitwise-or-start c = search needs
+part-all-zero-start : tie.Need-part-all-zero-start Inv-loop μ-loop
+part-all-zero-start c = search needs
 
-part-bitwise-or-end : tie.Need-part-bitwise-or-end Inv-loop μ-loop
-part-bitwise-or-end c = search needs
+part-all-zero-end : tie.Need-part-all-zero-end Inv-loop μ-loop
+part-all-zero-end c = search needs
 
-bitwise-or-requires : tie.Need-bitwise-or-requires Inv-loop μ-loop
-bitwise-or-requires c κs = search needs
+all-zero-requires : tie.Need-all-zero-requires Inv-loop μ-loop
+all-zero-requires c κs = search needs
 
 returns : tie.Need-returns Inv-loop μ-loop
 returns c =
-    let r = c .before .bitwise-or .result in
-    checked-part-fails (c .before .before .before .before .loop .inv .0) 256 (sym (c .before .bitwise-or .ensures) ∙ ne-eqb r 0 (λ e. omega arith))
+    checked-part-fails (c .before .before .before .before .loop .inv .0) 256 (sym (c .before .all-zero .ensures) ∙ not-true _ (c .if1 .taken))
 
 loop-less : tie.Need-loop-less Inv-loop μ-loop
 loop-less c = search needs
 
 loop-again : tie.Need-loop-again Inv-loop μ-loop
 loop-again c =
-    let r = c .before .bitwise-or .result in
-    (checked-part (c .before .before .before .before .loop .inv .0) 256 (sym (c .before .bitwise-or .ensures) ∙ eq-eqb r 0 (omega arith)), search needs)
+    (checked-part (c .before .before .before .before .loop .inv .0) 256 (sym (c .before .all-zero .ensures) ∙ not-false _ (c .if1 .left)), search needs)
 
-sub-bitwise-or-2 : tie.Need-sub-bitwise-or-2 Inv-loop μ-loop
-sub-bitwise-or-2 c = search needs
+sub-all-zero-2 : tie.Need-sub-all-zero-2 Inv-loop μ-loop
+sub-all-zero-2 c = search needs
 
-part-bitwise-or-start-2 : tie.Need-part-bitwise-or-start-2 Inv-loop μ-loop
-part-bitwise-or-start-2 c = search needs
+part-all-zero-start-2 : tie.Need-part-all-zero-start-2 Inv-loop μ-loop
+part-all-zero-start-2 c = search needs
 
-part-bitwise-or-end-2 : tie.Need-part-bitwise-or-end-2 Inv-loop μ-loop
-part-bitwise-or-end-2 c = search needs
+part-all-zero-end-2 : tie.Need-part-all-zero-end-2 Inv-loop μ-loop
+part-all-zero-end-2 c = search needs
 
-bitwise-or-requires-2 : tie.Need-bitwise-or-requires-2 Inv-loop μ-loop
-bitwise-or-requires-2 c κs = search needs
+all-zero-requires-2 : tie.Need-all-zero-requires-2 Inv-loop μ-loop
+all-zero-requires-2 c κs = search needs
 
 returns-2 : tie.Need-returns-2 Inv-loop μ-loop
-returns-2 c = c .bitwise-or2 .ensures ∙ checked-rest (c .before .before .before .loop .inv .0)
+returns-2 c = c .all-zero2 .ensures ∙ checked-rest (c .before .before .before .loop .inv .0)
 
 pub is-zero-spec : {M : Type 1} → statement M
 is-zero-spec =
@@ -75,15 +72,15 @@ is-zero-spec =
     loop-holds
     sub-loop
     add-to
-    sub-bitwise-or
-    part-bitwise-or-start
-    part-bitwise-or-end
-    bitwise-or-requires
+    sub-all-zero
+    part-all-zero-start
+    part-all-zero-end
+    all-zero-requires
     returns
     loop-less
     loop-again
-    sub-bitwise-or-2
-    part-bitwise-or-start-2
-    part-bitwise-or-end-2
-    bitwise-or-requires-2
+    sub-all-zero-2
+    part-all-zero-start-2
+    part-all-zero-end-2
+    all-zero-requires-2
     returns-2)

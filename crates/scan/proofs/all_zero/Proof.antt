@@ -1,13 +1,13 @@
--- `writeback::bitwise_or` meets its contract: the bitwise or of the bytes before i is 0 where all of them are.
+-- `scan::all_zero` meets its contract: the bitwise or of the bytes before i is 0 where all of them are.
 use Prim.Native.Nat.{_≤_, _-_}
 use native.Mathlib.Omega.{arith}
 use lib.ListN.{length}
 use lib.Dec.{eqb}
 use borrow.Author.Needs.{needs}
 use Rattle.scan.proofs.Loops.{Flagged, flagged-none, flagged-end}
-use Rattle.writeback.proofs.Zeros.{zero-next}
-use Rattle.writeback.proofs.bitwise_or.Statement.{statement}
-use Rattle.writeback.proofs.bitwise_or.Tie as tie
+use Rattle.scan.proofs.Zeros.{zero-next}
+use Rattle.scan.proofs.all_zero.Statement.{statement}
+use Rattle.scan.proofs.all_zero.Tie as tie
 
 abbrev Inv-loop : tie.InvT-loop
 Inv-loop bytes bits₀ i₀ bits i = Flagged (λ b. eqb b 0) bytes i (eqb bits 0) × (i ≤ length bytes)
@@ -35,7 +35,7 @@ loop-again c =
 returns : tie.Need-returns Inv-loop μ-loop
 returns c = flagged-end 0 (c .before .loop .inv .0) (omega arith)
 
-pub bitwise-or-spec : {M : Type 1} → statement M
-bitwise-or-spec =
+pub all-zero-spec : {M : Type 1} → statement M
+all-zero-spec =
     tie.close
     (tie.spec Inv-loop μ-loop loop-holds shared-slice-read-bits add-i loop-less loop-again returns)
