@@ -1,7 +1,7 @@
 -- Wrong stores, and that the demands rule each of them out: those of document 01, "Conditions of acceptance", its traps, and those
 -- that weaker claims let through.
 -- Each is this store with one call changed (the first two with all of them, or all but mount), or with another word of itself: a test, a
--- cost, something that runs out. There are one or two pages in a file.
+-- cost, a number of pages, something that runs out, a part that is more than the media. There are one or two pages in a file.
 use Prim.Native.Nat.{ℕ, suc, _+_, _-_, _*_, _/_, min}
 use mathlib.Core.Bool.{Bool, true, false, not, cond, _&&_, _||_}
 use mathlib.Core.List.{List, [], _∷_, _++_, map}
