@@ -40,12 +40,12 @@ fn patch_frames(frames: &mut [u8], at: usize, bytes: &[u8])
     memory::copy(&mut frames[at..end], bytes);
 }
 
-// A page as it becomes cached: a blank one, overlaid with its bytes below the floor.
-fn filled_page(live: &[u8]) -> [u8; 256]
-    ensures { λ r. ⌜ r ≡ overwrite blankPage 0 (now (live .entry)) ⌝ }
+// A page as it becomes cached: a blank one, overlaid with its current bytes, which are those below the floor.
+fn filled_page(current: &[u8]) -> [u8; 256]
+    ensures { λ r. ⌜ r ≡ overwrite blankPage 0 (now (current .entry)) ⌝ }
 {
     let mut page = [0u8; 256];
-    memory::copy(&mut page, live);
+    memory::copy(&mut page, current);
     page
 }
 
@@ -60,23 +60,23 @@ fn put_frame(frames: &mut [u8], k: usize, page: &[u8])
     patch_frames(frames, at + half, &page[half..]);
 }
 
-// The page of the media from `from` on, with its first `live` bytes, goes into the frame of slot k. Where all of them are live, or
-// none, its length is fixed, and the compiler keeps it out of memory.
-fn fill_frame(media: &[u8], frames: &mut [u8], k: usize, from: usize, live: usize)
-    requires { ⌜ (length (now frames) ≡ framesBytes) × (k < slotCount) × (live ≤ pageBytes) × (from + pageBytes ≤ length (now media)) × (length (now media) < 2 ^ 32) ⌝ }
-    ensures { λ r. ⌜ now (frames .exit) ≡ overwrite (now (frames .entry)) (frameStart k) (overwrite blankPage 0 (part (now (media .entry)) from live)) ⌝ }
+// The page of the media from `from` on goes into the frame of slot k, with its first `count` bytes, those below the floor. Where that
+// is all of them, or none, the length is fixed, and the compiler keeps the page out of memory.
+fn fill_frame(media: &[u8], frames: &mut [u8], k: usize, from: usize, count: usize)
+    requires { ⌜ (length (now frames) ≡ framesBytes) × (k < slotCount) × (count ≤ pageBytes) × (from + pageBytes ≤ length (now media)) × (length (now media) < 2 ^ 32) ⌝ }
+    ensures { λ r. ⌜ now (frames .exit) ≡ overwrite (now (frames .entry)) (frameStart k) (overwrite blankPage 0 (part (now (media .entry)) from count)) ⌝ }
 {
-    if live == PAGE_BYTES {
+    if count == PAGE_BYTES {
         let page = filled_page(&media[from..from + PAGE_BYTES]);
         patch_frames(frames, PAGE_BYTES * k, &page);
         return;
     }
-    if live == 0 {
+    if count == 0 {
         let page = [0u8; 256];
         patch_frames(frames, PAGE_BYTES * k, &page);
         return;
     }
-    let page = filled_page(&media[from..from + live]);
+    let page = filled_page(&media[from..from + count]);
     put_frame(frames, k, &page);
 }
 
@@ -98,8 +98,8 @@ fn cache_page(
     let floor = state_bytes::floor_at(state, file) as usize;
     let at = PAGE_BYTES * page;
     let from = file * (PAGE_BYTES * pages) + at;
-    let live = number::min(PAGE_BYTES, number::saturating_sub(floor, at));
-    fill_frame(media, frames, k, from, live);
+    let count = number::min(PAGE_BYTES, number::saturating_sub(floor, at));
+    fill_frame(media, frames, k, from, count);
     let slot = Slot {
         used: 1,
         file: file as u8,

@@ -1,4 +1,4 @@
--- `writing::fill_frame` meets its contract: a page of no live bytes is blank, and the others are laid over a blank one.
+-- `writing::fill_frame` meets its contract: a page with no byte below the floor is blank, and the others are laid over a blank one.
 use mathlib.Core.Path.{_≡_, ap, _∙_}
 use Prim.Native.Nat.{_+_, _-_}
 use native.Mathlib.Omega.{arith}
@@ -39,7 +39,7 @@ same-length c = search needs
 returns : tie.Need-returns
 returns c =
     let a = c .before .before .before .before .before .before .before .before .before .before .args in
-    let e : a .from + 256 - a .from ≡ a .live = omega arith in
+    let e : a .from + 256 - a .from ≡ a .count = omega arith in
     c .before .before .patch-frames .ensures ∙ ap (overwrite (a .frames .now) (frameStart (a .k))) (rw e at (c .before .before .before .before .before .filled-page .ensures))
 
 mul-patch-frames-2 : tie.Need-mul-patch-frames-2
@@ -57,7 +57,7 @@ same-length-2 c = search needs
 returns-2 : tie.Need-returns-2
 unfolding blankPage
 returns-2 c =
-    let e : c .before .before .before .before .before .before .before .before .before .args .live ≡ 0 = omega arith in
+    let e : c .before .before .before .before .before .before .before .before .before .args .count ≡ 0 = omega arith in
     rw e (c .before .before .patch-frames2 .ensures)
 
 add-filled-page-2 : tie.Need-add-filled-page-2
@@ -87,7 +87,7 @@ same-length-3 c = search needs
 returns-3 : tie.Need-returns-3
 returns-3 c =
     let a = c .before .before .before .before .before .before .before .before .before .before .before .args in
-    let e : a .from + a .live - a .from ≡ a .live = omega arith in
+    let e : a .from + a .count - a .from ≡ a .count = omega arith in
     c .before .before .put-frame .ensures ∙ ap (overwrite (a .frames .now) (frameStart (a .k))) (rw e at (c .before .before .before .before .before .filled-page2 .ensures))
 
 pub fill-frame-spec : {M : Type 1} → statement M

@@ -1,4 +1,4 @@
--- `writing::filled_page` meets its contract: the live bytes are laid over zeros.
+-- `writing::filled_page` meets its contract: the current bytes are laid over zeros.
 use Rattle.device.specs.Writing.{blankPage}
 use borrow.Author.Needs.{needs}
 use Rattle.writing.proofs.filled_page.Statement.{statement}
