@@ -33,7 +33,7 @@ use Rattle.device.proofs.Truncating.{truncate-by}
 use Rattle.device.proofs.Syncing.{sync-by, sync-at-most}
 use Rattle.device.proofs.Mounting.{mount-by, format-by}
 use Rattle.state_bytes.specs.Encoding.{stateBytes}
-use Rattle.state_bytes.specs.InPlace.{Lent, deviceIn, stateShape, onBytes, readBytes, lookCountBytes, lookSpanBytes}
+use Rattle.state_bytes.specs.InPlace.{Borrowed, deviceIn, stateShape, onBytes, readBytes, lookCountBytes, lookSpanBytes}
 use Rattle.state_bytes.proofs.OnBytes.{span-on}
 
 -- an answer that is that of a call
@@ -45,11 +45,11 @@ pub fits : (a b : Coded) (n : ℕ) → a ≡ b → b .count ≤ n → n < 65536 
 fits a b n e h l = rw e (omega arith)
 
 -- a call on bytes counts no more than the call
-pub on-small : (call : Device → Result Device) (n : ℕ) → ((d : Device) → call d .answer .count ≤ n) → (l : Lent) → onBytes call l .answer .count ≤ n
+pub on-small : (call : Device → Result Device) (n : ℕ) → ((d : Device) → call d .answer .count ≤ n) → (l : Borrowed) → onBytes call l .answer .count ≤ n
 unfolding onBytes stateShape
 on-small call n most l = cases (eqb (length (l .state)) stateBytes) (λ e. rw e (most (deviceIn l))) (λ e. rw e (omega arith))
 
-module _ (P f position : ℕ) (l : Lent) where
+module _ (P f position : ℕ) (l : Borrowed) where
   pub read-small : (buffer : List ℕ) → readBytes P f position buffer l .answer .count ≤ fileBytes P
   unfolding readBytes stateShape
   read-small buffer =

@@ -25,7 +25,7 @@ use Rattle.device.proofs.Syncing.{sync-by}
 use Rattle.device.proofs.Mounting.{mount-by, format-by}
 use Rattle.state_bytes.specs.Encoding.{stateBytes}
 use Rattle.state_bytes.specs.Inverse.{areBytes}
-use Rattle.state_bytes.specs.InPlace.{Lent, deviceIn, stateShape, onBytes, readBytes}
+use Rattle.state_bytes.specs.InPlace.{Borrowed, deviceIn, stateShape, onBytes, readBytes}
 use Rattle.state_bytes.proofs.Inverse.{inverse}
 use Rattle.state_bytes.proofs.OnBytes.{Kind, same-on, same-read, same-count, same-span, write-shaped, truncate-shaped, sync-shaped, mount-shaped, format-shaped}
 use Rattle.boxstore.specs.Interface.{wordOf, spanWord}
@@ -54,7 +54,7 @@ module _ (P : ℕ) (d : Device) where
   format-kept budget = format-by P budget d (Kept d) (λ k lo hi n m. refl) (λ l n m. absurd (m refl)) (λ l x y n m. absurd (n refl))
 
 module _ (call : Device → Result Device) (kept : (d : Device) → Kept d (call d)) where
-  refused : (l : Lent) → areBytes (l .state) ≡ true → onBytes call l .answer .number ≢ 0 → onBytes call l .answer .number ≢ 9 → onBytes call l .left ≡ l
+  refused : (l : Borrowed) → areBytes (l .state) ≡ true → onBytes call l .answer .number ≢ 0 → onBytes call l .answer .number ≢ 9 → onBytes call l .left ≡ l
   unfolding onBytes stateShape
   refused l small n m =
       cases (eqb (length (l .state)) stateBytes)
@@ -71,7 +71,7 @@ module _ (call : Device → Result Device) (kept : (d : Device) → Kept d (call
 
 -- ---- reads and looks
 
-read-left : (P f position : ℕ) (buffer : List ℕ) (l : Lent) → readBytes P f position buffer l .answer .number ≢ 0 → readBytes P f position buffer l .left ≡ buffer
+read-left : (P f position : ℕ) (buffer : List ℕ) (l : Borrowed) → readBytes P f position buffer l .answer .number ≢ 0 → readBytes P f position buffer l .left ≡ buffer
 unfolding readBytes stateShape
 read-left P f position buffer l n =
     cases (eqb (length (l .state)) stateBytes)

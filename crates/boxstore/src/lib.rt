@@ -11,14 +11,15 @@ ghost use mathlib.Core.List.{List};
 ghost use Prim.Native.Nat.{ℕ, _<_};
 ghost use Rattle.answer.specs.Coded.{coded};
 ghost use Rattle.media.specs.Geometry.{pagesPerFile};
-ghost use Rattle.media.specs.Write.{mediaOf};
 ghost use Rattle.media.specs.Direct.{pageAnswer, pageAfter, sizeAnswer, sizeAfter, trimAnswer, trimAfter};
 ghost use Rattle.device.specs.Writing.{write};
 ghost use Rattle.device.specs.Truncating.{truncate};
 ghost use Rattle.device.specs.Syncing.{sync};
 ghost use Rattle.device.specs.Mounting.{mount, format};
-ghost use Rattle.state_bytes.specs.InPlace.{lent, onBytes, readBytes, lookCountBytes, lookSpanBytes};
+ghost use Rattle.state_bytes.specs.InPlace.{borrowed, onBytes, readBytes, lookCountBytes, lookSpanBytes};
 ghost use Rattle.boxstore.specs.Interface.{wordOf, reply, inWord, spanWord, downBytes, truncateSizes};
+ghost use Rattle.media.specs.Moments.{mediaAtEntry, mediaAtExit};
+ghost use Rattle.state_bytes.specs.Moments.{borrowedAtEntry, borrowedAtExit};
 
 // SHAPE as a word.
 const SHAPE: u32 = 131072;
@@ -53,8 +54,8 @@ pub extern "C" fn boxstore_format(
     state: &mut [u8],
     budget: usize,
 ) -> u32
-    ensures { λ r. ⌜ ((frames : List ℕ) → reply r (lent (mediaOf (now (media .exit)) (now (sizes .exit))) frames (now (state .exit)))
-        ≡ inWord (onBytes (format pagesPerFile budget) (lent (mediaOf (now (media .entry)) (now (sizes .entry))) frames (now (state .entry))))) ⌝ }
+    ensures { λ r. ⌜ ((frames : List ℕ) → reply r (borrowed (mediaAtExit media sizes) frames (now (state .exit)))
+        ≡ inWord (onBytes (format pagesPerFile budget) (borrowed (mediaAtEntry media sizes) frames (now (state .entry))))) ⌝ }
 {
     answer_word(writeback::format(media, sizes, state, budget))
 }
@@ -67,8 +68,8 @@ pub extern "C" fn boxstore_mount(
     state: &mut [u8],
     budget: usize,
 ) -> u32
-    ensures { λ r. ⌜ ((frames : List ℕ) → reply r (lent (mediaOf (now (media .exit)) (now (sizes .exit))) frames (now (state .exit)))
-        ≡ inWord (onBytes (mount pagesPerFile budget) (lent (mediaOf (now (media .entry)) (now (sizes .entry))) frames (now (state .entry))))) ⌝ }
+    ensures { λ r. ⌜ ((frames : List ℕ) → reply r (borrowed (mediaAtExit media sizes) frames (now (state .exit)))
+        ≡ inWord (onBytes (mount pagesPerFile budget) (borrowed (mediaAtEntry media sizes) frames (now (state .entry))))) ⌝ }
 {
     answer_word(writeback::mount(media, sizes, state, budget))
 }
@@ -85,7 +86,7 @@ pub extern "C" fn boxstore_read(
     buffer: &mut [u8],
 ) -> u32
     ensures { λ r. ⌜ reply r (now (buffer .exit))
-        ≡ inWord (readBytes pagesPerFile file position (now (buffer .entry)) (lent (mediaOf (now (media .entry)) (now (sizes .entry))) (now (frames .entry)) (now (state .entry)))) ⌝ }
+        ≡ inWord (readBytes pagesPerFile file position (now (buffer .entry)) (borrowedAtEntry media sizes frames state)) ⌝ }
 {
     answer_word(reading::read(media, sizes, frames, state, file, position, buffer))
 }
@@ -101,8 +102,8 @@ pub extern "C" fn boxstore_write(
     position: usize,
     bytes: &[u8],
 ) -> u32
-    ensures { λ r. ⌜ reply r (lent (mediaOf (now (media .entry)) (now (sizes .entry))) (now (frames .exit)) (now (state .exit)))
-        ≡ inWord (onBytes (write pagesPerFile file position (now (bytes .entry))) (lent (mediaOf (now (media .entry)) (now (sizes .entry))) (now (frames .entry)) (now (state .entry)))) ⌝ }
+    ensures { λ r. ⌜ reply r (borrowedAtExit media sizes frames state)
+        ≡ inWord (onBytes (write pagesPerFile file position (now (bytes .entry))) (borrowedAtEntry media sizes frames state)) ⌝ }
 {
     answer_word(writing::write(media, sizes, frames, state, file, position, bytes))
 }
@@ -117,8 +118,8 @@ pub extern "C" fn boxstore_truncate(
     file: usize,
     n: usize,
 ) -> u32
-    ensures { λ r. ⌜ reply r (lent (mediaOf (now (media .entry)) (now (sizes .entry))) (now (frames .exit)) (now (state .exit)))
-        ≡ inWord (onBytes (truncate pagesPerFile file n) (lent (mediaOf (now (media .entry)) (now (sizes .entry))) (now (frames .entry)) (now (state .entry)))) ⌝ }
+    ensures { λ r. ⌜ reply r (borrowedAtExit media sizes frames state)
+        ≡ inWord (onBytes (truncate pagesPerFile file n) (borrowedAtEntry media sizes frames state)) ⌝ }
 {
     answer_word(writing::truncate(media, sizes, frames, state, file, n))
 }
@@ -133,8 +134,8 @@ pub extern "C" fn boxstore_sync(
     file: usize,
     budget: usize,
 ) -> u32
-    ensures { λ r. ⌜ reply r (lent (mediaOf (now (media .exit)) (now (sizes .exit))) (now (frames .entry)) (now (state .exit)))
-        ≡ inWord (onBytes (sync pagesPerFile file budget) (lent (mediaOf (now (media .entry)) (now (sizes .entry))) (now (frames .entry)) (now (state .entry)))) ⌝ }
+    ensures { λ r. ⌜ reply r (borrowedAtExit media sizes frames state)
+        ≡ inWord (onBytes (sync pagesPerFile file budget) (borrowedAtEntry media sizes frames state)) ⌝ }
 {
     answer_word(writeback::sync(media, sizes, frames, state, file, budget))
 }
@@ -149,7 +150,7 @@ pub extern "C" fn boxstore_look_count(
     file: usize,
     position: usize,
 ) -> u32
-    ensures { λ r. ⌜ r ≡ wordOf (lookCountBytes pagesPerFile file position (lent (mediaOf (now (media .entry)) (now (sizes .entry))) (now (frames .entry)) (now (state .entry)))) ⌝ }
+    ensures { λ r. ⌜ r ≡ wordOf (lookCountBytes pagesPerFile file position (borrowedAtEntry media sizes frames state)) ⌝ }
 {
     answer_word(reading::look_count(media, sizes, frames, state, file, position))
 }
@@ -177,7 +178,7 @@ pub extern "C" fn boxstore_look(
     file: usize,
     position: usize,
 ) -> u64
-    ensures { λ r. ⌜ r ≡ spanWord (lookSpanBytes pagesPerFile file position (lent (mediaOf (now (media .entry)) (now (sizes .entry))) (now (frames .entry)) (now (state .entry)))) ⌝ }
+    ensures { λ r. ⌜ r ≡ spanWord (lookSpanBytes pagesPerFile file position (borrowedAtEntry media sizes frames state)) ⌝ }
 {
     span_word(reading::look_span(media, sizes, frames, state, file, position))
 }
@@ -214,8 +215,8 @@ pub extern "C" fn boxstore_write_page(page: &mut [u8], bytes: &[u8]) -> u32
 // SIZE by itself.
 #[no_mangle]
 pub extern "C" fn boxstore_write_size(media: &[u8], sizes: &mut [u32], file: usize, n: usize) -> u32
-    ensures { λ r. ⌜ (r ≡ wordOf (sizeAnswer pagesPerFile (mediaOf (now (media .entry)) (now (sizes .entry))) file n))
-        × (mediaOf (now (media .entry)) (now (sizes .exit)) ≡ sizeAfter pagesPerFile (mediaOf (now (media .entry)) (now (sizes .entry))) file n) ⌝ }
+    ensures { λ r. ⌜ (r ≡ wordOf (sizeAnswer pagesPerFile (mediaAtEntry media sizes) file n))
+        × (mediaAtExit media sizes ≡ sizeAfter pagesPerFile (mediaAtEntry media sizes) file n) ⌝ }
 {
     answer_word(media::write_size(media, sizes, file, n))
 }
@@ -223,8 +224,8 @@ pub extern "C" fn boxstore_write_size(media: &[u8], sizes: &mut [u32], file: usi
 // TRIM by itself.
 #[no_mangle]
 pub extern "C" fn boxstore_trim(media: &mut [u8], sizes: &mut [u32], file: usize, n: usize) -> u32
-    ensures { λ r. ⌜ (r ≡ wordOf (trimAnswer pagesPerFile (mediaOf (now (media .entry)) (now (sizes .entry))) file n))
-        × (mediaOf (now (media .exit)) (now (sizes .exit)) ≡ trimAfter pagesPerFile (mediaOf (now (media .entry)) (now (sizes .entry))) file n) ⌝ }
+    ensures { λ r. ⌜ (r ≡ wordOf (trimAnswer pagesPerFile (mediaAtEntry media sizes) file n))
+        × (mediaAtExit media sizes ≡ trimAfter pagesPerFile (mediaAtEntry media sizes) file n) ⌝ }
 {
     answer_word(media::trim(media, sizes, file, n))
 }

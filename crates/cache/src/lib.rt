@@ -26,7 +26,6 @@ ghost use Prim.Native.Nat.{ℕ};
 ghost use denote.Ref.{ptr};
 ghost use Rattle.answer.specs.Coded.{coded};
 ghost use Rattle.media.specs.Geometry.{pagesPerFile};
-ghost use Rattle.media.specs.Write.{mediaOf};
 ghost use Rattle.device.specs.Device.{deviceOf};
 ghost use Rattle.device.specs.Admission.{give};
 ghost use Rattle.device.specs.Reading.{read};
@@ -36,6 +35,8 @@ ghost use Rattle.device.specs.Truncating.{truncate};
 ghost use Rattle.device.specs.Syncing.{sync};
 ghost use Rattle.device.specs.Mounting.{mount, format};
 ghost use Rattle.state_bytes.specs.Encoding.{encode};
+ghost use Rattle.media.specs.Moments.{mediaAtEntry, mediaAtExit};
+ghost use Rattle.device.specs.Moments.{deviceAtEntry, deviceAtExit};
 
 // The bytes of a state.
 fn bytes_of(cache: CacheState) -> [u8; STATE_BYTES]
@@ -58,7 +59,7 @@ pub fn read(
     buffer: &mut [u8],
 ) -> Outcome
     ensures { λ r. ⌜ (give (coded (r .answer)) (now (buffer .exit))
-        ≡ read pagesPerFile file position (now (buffer .entry)) (deviceOf (mediaOf (now (media .entry)) (now (sizes .entry))) (now (frames .entry)) cache))
+        ≡ read pagesPerFile file position (now (buffer .entry)) (deviceAtEntry media sizes frames cache))
         × (r .cache ≡ cache) ⌝ }
 {
     let state = bytes_of(cache);
@@ -77,7 +78,7 @@ pub fn look_span(
     file: usize,
     position: usize,
 ) -> Span
-    ensures { λ r. ⌜ r ≡ lookSpan pagesPerFile file position (deviceOf (mediaOf (now (media .entry)) (now (sizes .entry))) (now (frames .entry)) cache) ⌝ }
+    ensures { λ r. ⌜ r ≡ lookSpan pagesPerFile file position (deviceAtEntry media sizes frames cache) ⌝ }
 {
     let state = bytes_of(cache);
     reading::look_span(media, sizes, frames, &state, file, position)
@@ -92,8 +93,9 @@ pub fn look<'a>(
     file: usize,
     position: usize,
 ) -> &'a [u8]
-    ensures { λ r. ⌜ (now r ≡ look pagesPerFile file position (deviceOf (mediaOf (now (media .entry)) (now (sizes .entry))) (now (frames .entry)) cache))
-        × (ptr r ≡ lookPlace pagesPerFile file position (ptr (media .entry)) (ptr (frames .entry)) (deviceOf (mediaOf (now (media .entry)) (now (sizes .entry))) (now (frames .entry)) cache)) ⌝ }
+    ensures { λ r. ⌜ (now r ≡ look pagesPerFile file position (deviceAtEntry media sizes frames cache))
+        × (ptr r ≡ lookPlace pagesPerFile file position (ptr (media .entry)) (ptr (frames .entry))
+        (deviceAtEntry media sizes frames cache)) ⌝ }
 {
     let span = look_span(media, sizes, frames, cache, file, position);
     let from = span.from;
@@ -115,7 +117,7 @@ pub fn look_count(
     position: usize,
 ) -> Outcome
     ensures { λ r. ⌜ (coded (r .answer)
-        ≡ lookCount pagesPerFile file position (deviceOf (mediaOf (now (media .entry)) (now (sizes .entry))) (now (frames .entry)) cache))
+        ≡ lookCount pagesPerFile file position (deviceAtEntry media sizes frames cache))
         × (r .cache ≡ cache) ⌝ }
 {
     let state = bytes_of(cache);
@@ -134,8 +136,8 @@ pub fn write(
     position: usize,
     bytes: &[u8],
 ) -> Outcome
-    ensures { λ r. ⌜ give (coded (r .answer)) (deviceOf (mediaOf (now (media .entry)) (now (sizes .entry))) (now (frames .exit)) (r .cache))
-        ≡ write pagesPerFile file position (now (bytes .entry)) (deviceOf (mediaOf (now (media .entry)) (now (sizes .entry))) (now (frames .entry)) cache) ⌝ }
+    ensures { λ r. ⌜ give (coded (r .answer)) (deviceAtExit media sizes frames (r .cache))
+        ≡ write pagesPerFile file position (now (bytes .entry)) (deviceAtEntry media sizes frames cache) ⌝ }
 {
     let mut state = bytes_of(cache);
     let answer = writing::write(media, sizes, frames, &mut state, file, position, bytes);
@@ -154,8 +156,8 @@ pub fn truncate(
     file: usize,
     n: usize,
 ) -> Outcome
-    ensures { λ r. ⌜ give (coded (r .answer)) (deviceOf (mediaOf (now (media .entry)) (now (sizes .entry))) (now (frames .exit)) (r .cache))
-        ≡ truncate pagesPerFile file n (deviceOf (mediaOf (now (media .entry)) (now (sizes .entry))) (now (frames .entry)) cache) ⌝ }
+    ensures { λ r. ⌜ give (coded (r .answer)) (deviceAtExit media sizes frames (r .cache))
+        ≡ truncate pagesPerFile file n (deviceAtEntry media sizes frames cache) ⌝ }
 {
     let mut state = bytes_of(cache);
     let answer = writing::truncate(media, sizes, frames, &mut state, file, n);
@@ -174,8 +176,8 @@ pub fn sync(
     file: usize,
     budget: usize,
 ) -> Outcome
-    ensures { λ r. ⌜ give (coded (r .answer)) (deviceOf (mediaOf (now (media .exit)) (now (sizes .exit))) (now (frames .entry)) (r .cache))
-        ≡ sync pagesPerFile file budget (deviceOf (mediaOf (now (media .entry)) (now (sizes .entry))) (now (frames .entry)) cache) ⌝ }
+    ensures { λ r. ⌜ give (coded (r .answer)) (deviceAtExit media sizes frames (r .cache))
+        ≡ sync pagesPerFile file budget (deviceAtEntry media sizes frames cache) ⌝ }
 {
     let mut state = bytes_of(cache);
     let answer = writeback::sync(media, sizes, frames, &mut state, file, budget);
@@ -188,8 +190,8 @@ pub fn sync(
 // Mount: brings the device up, with no page cached and the stored sizes. Bytes past a stored size are cleared first, by TRIM.
 // The state that comes in is not looked at.
 pub fn mount(media: &mut [u8], sizes: &mut [u32], cache: CacheState, budget: usize) -> Outcome
-    ensures { λ r. ⌜ ((frames : List ℕ) → give (coded (r .answer)) (deviceOf (mediaOf (now (media .exit)) (now (sizes .exit))) frames (r .cache))
-        ≡ mount pagesPerFile budget (deviceOf (mediaOf (now (media .entry)) (now (sizes .entry))) frames cache)) ⌝ }
+    ensures { λ r. ⌜ ((frames : List ℕ) → give (coded (r .answer)) (deviceOf (mediaAtExit media sizes) frames (r .cache))
+        ≡ mount pagesPerFile budget (deviceOf (mediaAtEntry media sizes) frames cache)) ⌝ }
 {
     let mut state = bytes_of(cache);
     let answer = writeback::mount(media, sizes, &mut state, budget);
@@ -201,8 +203,8 @@ pub fn mount(media: &mut [u8], sizes: &mut [u32], cache: CacheState, budget: usi
 
 // Format: empties all files, by TRIM to 0. The device is down after it, done or cut. The state that comes in is not looked at.
 pub fn format(media: &mut [u8], sizes: &mut [u32], cache: CacheState, budget: usize) -> Outcome
-    ensures { λ r. ⌜ ((frames : List ℕ) → give (coded (r .answer)) (deviceOf (mediaOf (now (media .exit)) (now (sizes .exit))) frames (r .cache))
-        ≡ format pagesPerFile budget (deviceOf (mediaOf (now (media .entry)) (now (sizes .entry))) frames cache)) ⌝ }
+    ensures { λ r. ⌜ ((frames : List ℕ) → give (coded (r .answer)) (deviceOf (mediaAtExit media sizes) frames (r .cache))
+        ≡ format pagesPerFile budget (deviceOf (mediaAtEntry media sizes) frames cache)) ⌝ }
 {
     let mut state = bytes_of(cache);
     let answer = writeback::format(media, sizes, &mut state, budget);

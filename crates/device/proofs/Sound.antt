@@ -18,7 +18,7 @@ use Rattle.device.specs.declared.CacheState.{CacheState}
 use Rattle.scan.specs.Scan.{allOf, every, everyBelow, firstIndex}
 use Rattle.device.specs.Device.{Device, downState, slotCount, freeSlot, noSlots, isFree, isUsed, usedSlot, holds, freeWhere}
 use Rattle.device.specs.Sizes.{inOrder}
-use Rattle.device.specs.Sound.{inRange, holdsAlone, isDown, sizesIn, sizesOf, hasLengths, soundTests, isSound}
+use Rattle.device.specs.Sound.{inRange, holdsAlone, isDown, sizesBeside, sizesOf, hasLengths, soundTests, isSound}
 use Rattle.scan.proofs.Scan.{and-left, and-right, is-false, true-not-false, allOf-at, everyBelow-at, everyBelow-all, every-at, every-all, first-set, first-set-here}
 use Rattle.device.proofs.Sizes.{order-true, order-is}
 use Rattle.device.proofs.Device.{holds-own, holds-one, free-unused, free-holds, slot-stays}
@@ -149,9 +149,9 @@ module _ (P : ℕ) where
   pub down-sound : (stored : List ℕ) → isSound P stored downState ≡ true
   unfolding isSound soundTests holdsAlone isDown inRange hasLengths
   down-sound stored =
-      let order : everyBelow files (λ f. inOrder (fileBytes P) (sizesIn stored downState f)) ≡ true =
-      everyBelow-all files (λ f. inOrder (fileBytes P) (sizesIn stored downState f)) (λ f h.
-      order-true (fileBytes P) (sizesIn stored downState f)
+      let order : everyBelow files (λ f. inOrder (fileBytes P) (sizesBeside stored downState f)) ≡ true =
+      everyBelow-all files (λ f. inOrder (fileBytes P) (sizesBeside stored downState f)) (λ f h.
+      order-true (fileBytes P) (sizesBeside stored downState f)
       (omega (arith, getD-zeros files f)) (omega (arith, getD-zeros files f)) (omega (arith, getD-zeros files f))) in
       rw order
 
@@ -254,4 +254,4 @@ module _ (P : ℕ) where
 pub sound-sizes : (P : ℕ) (stored : List ℕ) (s : CacheState) (f : ℕ) → isSound P stored s ≡ true → f < files
     → (getD (s .floor) f 0 ≤ getD (s .logical) f 0) × (getD (s .logical) f 0 ≤ fileBytes P) × (getD (s .floor) f 0 ≤ getD stored f 0)
 unfolding isSound soundTests
-sound-sizes P stored s f e h = order-is (fileBytes P) (sizesIn stored s f) (everyBelow-at files (λ g. inOrder (fileBytes P) (sizesIn stored s g)) (allOf-at (soundTests P stored s) e 3) f h)
+sound-sizes P stored s f e h = order-is (fileBytes P) (sizesBeside stored s f) (everyBelow-at files (λ g. inOrder (fileBytes P) (sizesBeside stored s g)) (allOf-at (soundTests P stored s) e 3) f h)

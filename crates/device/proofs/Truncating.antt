@@ -27,7 +27,7 @@ use Rattle.device.proofs.Current.{current-cached, current-zero, current
 use Rattle.device.proofs.Admission.{Admitted, file-by, admit-refused, admit-passed}
 use Rattle.device.proofs.Sound.{Fit, freed-fit, sizes-fit}
 use Rattle.device.specs.Sizes.{truncatedSizes}
-use Rattle.device.specs.Sound.{sizesIn}
+use Rattle.device.specs.Sound.{sizesBeside}
 use Rattle.device.specs.declared.CacheState.{CacheState}
 
 -- refused with everything as it came, or done
@@ -220,7 +220,7 @@ module _ (P f n : ℕ) (d : Device) where
   truncate-refused x e = admit-refused (fileTests P d f (leb n (fileBytes P))) d _ x e
 
   pub truncate-done : (frames : List ℕ) (s : CacheState) → passed (fileTests P d f (leb n (fileBytes P))) ≡ true
-      → s ≡ withSizes f (truncatedSizes n (sizesIn [] (d .cache) f)) (withSlots (d .cache) (map (freeWhere (pagesFrom f n)) (d .cache .slots)))
+      → s ≡ withSizes f (truncatedSizes n (sizesBeside [] (d .cache) f)) (withSlots (d .cache) (map (freeWhere (pagesFrom f n)) (d .cache .slots)))
       → deviceOf (d .media) frames s ≡ clearTail f n (deviceOf (d .media) (d .frames) s)
       → give (done 0) (deviceOf (d .media) frames s) ≡ truncate P f n d
   unfolding truncate truncated withSizes

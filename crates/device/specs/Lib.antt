@@ -1,4 +1,5 @@
 pub mod Device
+pub mod Moments
 pub mod Sizes
 pub mod Sound
 pub mod Current

@@ -1,4 +1,4 @@
--- A plan: a list of media writes, of which as many are done as the budget pays for.
+-- A plan: a list of media writes, of which as many are done as the budget pays for. The budget is what document 01 calls the grant.
 use Prim.Native.Nat.{ℕ, _+_, _-_}
 use mathlib.Core.Path.{_≡_}
 use mathlib.Core.Bool.{Bool, cond}

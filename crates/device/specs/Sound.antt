@@ -23,11 +23,11 @@ holdsAlone slots k =
     cond (isUsed s) (eqb (firstIndex (holds (s .file) (s .page)) slots) k) true
 
 -- the sizes of file f, beside stored sizes
-abbrev pub sizesIn : List ℕ → CacheState → ℕ → FileSizes
-sizesIn stored s f = record { logical = getD (s .logical) f 0; floor = getD (s .floor) f 0; stored = getD stored f 0 }
+abbrev pub sizesBeside : List ℕ → CacheState → ℕ → FileSizes
+sizesBeside stored s f = record { logical = getD (s .logical) f 0; floor = getD (s .floor) f 0; stored = getD stored f 0 }
 
 abbrev pub sizesOf : Device → ℕ → FileSizes
-sizesOf d f = sizesIn (d .media .sizes) (d .cache) f
+sizesOf d f = sizesBeside (d .media .sizes) (d .cache) f
 
 -- what the down state has: every slot free, every size 0
 unfoldable pub isDown : CacheState → Bool
@@ -42,7 +42,7 @@ soundTests P stored s =
     leb (s .mounted) 1
     ∷ every (inRange P) (s .slots)
     ∷ everyBelow slotCount (holdsAlone (s .slots))
-    ∷ everyBelow files (λ f. inOrder (fileBytes P) (sizesIn stored s f))
+    ∷ everyBelow files (λ f. inOrder (fileBytes P) (sizesBeside stored s f))
     ∷ cond (eqb (s .mounted) 0) (isDown s) true
     ∷ hasLengths s
     ∷ []

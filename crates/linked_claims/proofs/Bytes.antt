@@ -18,7 +18,7 @@ use Rattle.device.specs.declared.CacheState.{CacheState}
 use Rattle.device.specs.Device.{slotCount, freeSlot, isUsed, isFree}
 use Rattle.device.specs.Sound.{inRange, hasLengths, isSound, soundTests}
 use Rattle.device.proofs.Sound.{lengths-are, sound-lengths, sound-mark, sound-sizes}
-use Rattle.state_bytes.specs.Encoding.{stateBytes, encode, joined, slotBytes, numberBytes}
+use Rattle.state_bytes.specs.Encoding.{stateBytes, encode, concatMap, slotBytes, numberBytes}
 use Rattle.state_bytes.specs.Inverse.{Shaped, areBytes}
 use Rattle.state_bytes.proofs.Inverse.{length-encode}
 use Rattle.model.specs.Demands.{isSize, fitsTypes}
@@ -37,11 +37,11 @@ unfolding areBytes
 bytes-append [] ys h k = k
 bytes-append (x ∷ xs) ys h k = rw (and-left (isByte x) (areBytes xs) h) (bytes-append xs ys (and-right (isByte x) (areBytes xs) h) k)
 
-bytes-joined : {A : Type 0} (g : A → List ℕ) (t : A → Bool) → ((x : A) → t x ≡ true → areBytes (g x) ≡ true) → (xs : List A) → every t xs ≡ true → areBytes (joined g xs) ≡ true
+bytes-concatMap : {A : Type 0} (g : A → List ℕ) (t : A → Bool) → ((x : A) → t x ≡ true → areBytes (g x) ≡ true) → (xs : List A) → every t xs ≡ true → areBytes (concatMap g xs) ≡ true
 unfolding areBytes
-bytes-joined g t h [] e = refl
-bytes-joined g t h (x ∷ xs) e =
-    bytes-append (g x) (joined g xs) (h x (and-left (t x) (every t xs) e)) (bytes-joined g t h xs (and-right (t x) (every t xs) e))
+bytes-concatMap g t h [] e = refl
+bytes-concatMap g t h (x ∷ xs) e =
+    bytes-append (g x) (concatMap g xs) (h x (and-left (t x) (every t xs) e)) (bytes-concatMap g t h xs (and-right (t x) (every t xs) e))
 
 number-bytes : (n : ℕ) → isSize n ≡ true → areBytes (numberBytes n) ≡ true
 unfolding areBytes
@@ -59,11 +59,11 @@ pub held-bytes : (s : CacheState) → fitsTypes s ≡ true → isState (encode s
 unfolding areBytes isState encode fitsTypes
 held-bytes s e =
     let h : List Bool = hasLengths s ∷ isByte (s .mounted) ∷ every slotHeld (s .slots) ∷ every isSize (s .logical) ∷ every isSize (s .floor) ∷ [] in
-    let slots : areBytes (joined slotBytes (s .slots)) ≡ true = bytes-joined slotBytes slotHeld (λ k held. held) (s .slots) (allOf-at h e 2) in
-    let logical : areBytes (joined numberBytes (s .logical)) ≡ true = bytes-joined numberBytes isSize number-bytes (s .logical) (allOf-at h e 3) in
-    let floor : areBytes (joined numberBytes (s .floor)) ≡ true = bytes-joined numberBytes isSize number-bytes (s .floor) (allOf-at h e 4) in
+    let slots : areBytes (concatMap slotBytes (s .slots)) ≡ true = bytes-concatMap slotBytes slotHeld (λ k held. held) (s .slots) (allOf-at h e 2) in
+    let logical : areBytes (concatMap numberBytes (s .logical)) ≡ true = bytes-concatMap numberBytes isSize number-bytes (s .logical) (allOf-at h e 3) in
+    let floor : areBytes (concatMap numberBytes (s .floor)) ≡ true = bytes-concatMap numberBytes isSize number-bytes (s .floor) (allOf-at h e 4) in
     let all : areBytes (encode s) ≡ true =
-    rw (allOf-at h e 1) (bytes-append (joined slotBytes (s .slots)) _ slots (bytes-append (joined numberBytes (s .logical)) _ logical floor)) in
+    rw (allOf-at h e 1) (bytes-append (concatMap slotBytes (s .slots)) _ slots (bytes-append (concatMap numberBytes (s .logical)) _ logical floor)) in
     rw (all, eq-eqb (length (encode s)) stateBytes (length-encode s (held-shaped s e)))
 
 -- a sound state is one

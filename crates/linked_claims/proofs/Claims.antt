@@ -29,7 +29,7 @@ use Rattle.device.specs.Looking as Looking
 use Rattle.device.proofs.Sound.{down-sound}
 use Rattle.state_bytes.specs.Encoding.{stateBytes, encode}
 use Rattle.state_bytes.specs.Inverse.{Shaped, areBytes}
-use Rattle.state_bytes.specs.InPlace.{Lent, lent, lentOf, deviceIn, stateShape, onBytes, readBytes, lookCountBytes, lookSpanBytes}
+use Rattle.state_bytes.specs.InPlace.{Borrowed, borrowed, borrowedOf, deviceIn, stateShape, onBytes, readBytes, lookCountBytes, lookSpanBytes}
 use Rattle.state_bytes.proofs.Inverse.{inverse}
 use Rattle.state_bytes.proofs.InPlace.{shaped}
 use Rattle.state_bytes.proofs.OnBytes.{length-on, read-on, count-on, span-on, down-shaped, write-shaped, truncate-shaped, sync-shaped, mount-shaped, format-shaped}
@@ -43,7 +43,7 @@ use Rattle.model.specs.Claims.{asItCame, Made, Cut, Persists, Answers, Demand1,
 use Rattle.model.specs.Format.{formatWrites, Formats, Format}
 use Rattle.model.specs.Demands.{Priced, Loses, Begins, PlainDemands}
 use Rattle.model.specs.States.{CrashState, ClosedForm}
-use Rattle.model.specs.Store.{store, storeDoes, silent}
+use Rattle.model.specs.Store.{store, storeDoes, withoutOutput}
 use Rattle.model.proofs.ModelFile.{state-becomes}
 use Rattle.model.proofs.Run.{in-every-run, weaker-runs}
 use Rattle.model.proofs.Refusals.{demand-1}
@@ -53,15 +53,15 @@ use Rattle.linked_claims.specs.LinkedStore.{isState, onSlices, linkedDoe
 use Rattle.linked_claims.proofs.Bytes.{held-shaped, held-bytes, sound-bytes, state-bytes}
 
 -- a reply with the state as bytes
-abbrev asBytes : Reply Device → Reply Lent
-asBytes r = record { answer = r .answer; output = r .output; device = lentOf (r .device) }
+abbrev asBytes : Reply Device → Reply Borrowed
+asBytes r = record { answer = r .answer; output = r .output; device = borrowedOf (r .device) }
 
 -- bytes say the state that they are made of, and are made of the state that they say
-back : (d : Device) → Shaped (d .cache) → deviceIn (lentOf d) ≡ d
+back : (d : Device) → Shaped (d .cache) → deviceIn (borrowedOf d) ≡ d
 back d h = ap (λ (s : CacheState). deviceOf (d .media) (d .frames) s) (inverse .there-and-back (d .cache) h)
 
-there : (l : Lent) → isState (l .state) ≡ true → lentOf (deviceIn l) ≡ l
-there l e = let b = state-bytes (l .state) e in ap (λ (s : List ℕ). lent (l .media) (l .frames) s) (inverse .back-and-there (l .state) (b .0) (b .1))
+there : (l : Borrowed) → isState (l .state) ≡ true → borrowedOf (deviceIn l) ≡ l
+there l e = let b = state-bytes (l .state) e in ap (λ (s : List ℕ). borrowed (l .media) (l .frames) s) (inverse .back-and-there (l .state) (b .0) (b .1))
 
 module _ (P : ℕ) where
   abbrev Linked : Interface
@@ -82,7 +82,7 @@ module _ (P : ℕ) where
 
   -- ---- on other bytes
 
-  other : (c : Call) (l : Lent) → isState (l .state) ≡ false → linkedDoes P c l ≡ record { answer = SHAPE; output = asItCame c; device = l }
+  other : (c : Call) (l : Borrowed) → isState (l .state) ≡ false → linkedDoes P c l ≡ record { answer = SHAPE; output = asItCame c; device = l }
   unfolding isState stateShape onBytes readBytes lookCountBytes lookSpanBytes spanBytes
   other c l e =
       cases (areBytes (l .state))
@@ -99,7 +99,7 @@ module _ (P : ℕ) where
 
   -- ---- on the bytes of a state
 
-  module _ (l : Lent) (e : isState (l .state) ≡ true) where
+  module _ (l : Borrowed) (e : isState (l .state) ≡ true) where
     abbrev d : Device
     d = deviceIn l
 
@@ -111,8 +111,8 @@ module _ (P : ℕ) where
     are-bytes = and-left (areBytes (l .state)) _ e
 
     -- a call that changes the device
-    changes-same : (h : Device → Result Device) → silent (onBytes h l) ≡ asBytes (silent (h (deviceIn l)))
-    changes-same h = ap silent (sym (length-on h l long))
+    changes-same : (h : Device → Result Device) → withoutOutput (onBytes h l) ≡ asBytes (withoutOutput (h (deviceIn l)))
+    changes-same h = ap withoutOutput (sym (length-on h l long))
 
     slices : (c : Call) → onSlices P c l ≡ asBytes (storeDoes P c (deviceIn l))
     unfolding Looking.look
@@ -121,7 +121,7 @@ module _ (P : ℕ) where
         ap (λ (a : Coded). record { answer = a; output = spanBytes (deviceIn l) (lookSpanBytes P f position l); device = l }) (sym (count-on P f position l long))
         ∙ ap (λ (x : Span). record { answer = Looking.lookCount P f position (deviceIn l); output = spanBytes (deviceIn l) x; device = l })
         (sym (span-on P f position l long))
-        ∙ ap (λ (y : Lent). record { answer = Looking.lookCount P f position (deviceIn l); output = Looking.look P f position (deviceIn l); device = y })
+        ∙ ap (λ (y : Borrowed). record { answer = Looking.lookCount P f position (deviceIn l); output = Looking.look P f position (deviceIn l); device = y })
         (sym (there l e))
     slices (write f position bytes) = changes-same (Writing.write P f position bytes)
     slices (truncate f n) = changes-same (Truncating.truncate P f n)
@@ -166,7 +166,7 @@ module _ (P : ℕ) where
     abbrev after : Call → Device
     after c = storeDoes P c (deviceIn l) .device
 
-    said : (c : Call) → deviceIn (lentOf (after c)) ≡ after c
+    said : (c : Call) → deviceIn (borrowedOf (after c)) ≡ after c
     said c = back (after c) (stays-shaped c (deviceIn l) (shaped (l .state)))
 
     said-reply : (c : Call) → imaged Linked (asBytes (storeDoes P c (deviceIn l))) ≡ storeDoes P c (deviceIn l)
@@ -176,26 +176,26 @@ module _ (P : ℕ) where
 
     module _ (hp : P ≤ 256) (hb : fileBytes P < 4294967296) where
       -- a sound state has bytes, and so has the down state
-      sound-persists : (x : Device) → isSound P (x .media .sizes) (x .cache) ≡ true → Persists Linked (lentOf x)
+      sound-persists : (x : Device) → isSound P (x .media .sizes) (x .cache) ≡ true → Persists Linked (borrowedOf x)
       sound-persists x h = record { image = refl; shaped = sound-bytes P hp hb (x .media .sizes) (x .cache) h; intact = refl }
 
-      down-persists : (x : Device) → x .cache ≡ downState → Persists Linked (lentOf x)
+      down-persists : (x : Device) → x .cache ≡ downState → Persists Linked (borrowedOf x)
       down-persists x h = sound-persists x (rw h (down-sound P (x .media .sizes)))
 
-      persists : (c : Call) → storeDoes P c (deviceIn l) .answer .number ≡ 0 ⊎ storeDoes P c (deviceIn l) .answer .number ≡ 9 → Persists Linked (lentOf (after c))
+      persists : (c : Call) → storeDoes P c (deviceIn l) .answer .number ≡ 0 ⊎ storeDoes P c (deviceIn l) .answer .number ≡ 9 → Persists Linked (borrowedOf (after c))
       persists c (inl z) = sound-persists (after c) (demand-1 P c (deviceIn l) .is-done z .sound)
       persists c (inr z) = down-persists (after c) (ap (λ (x : Device). x .cache) (demand-1 P c (deviceIn l) .is-cut z .leaves))
 
       answers : (c : Call) → Answers Linked c l (linkedDoes P c l)
       answers c =
           let a = demand-1 P c (deviceIn l) in
-          subst (λ (r : Reply Lent). Answers Linked c l r) (sym (same c))
+          subst (λ (r : Reply Borrowed). Answers Linked c l r) (sym (same c))
           (record {
             count = a .count;
             in-order = rw (← conditions-same c, ← limits-same c) (a .in-order);
-            silent = a .silent;
-            unchanged = λ z n. ap lentOf (a .unchanged z n) ∙ there l e;
-            idle = λ i. ap lentOf (a .idle i) ∙ there l e;
+            output-kept = a .output-kept;
+            unchanged = λ z n. ap borrowedOf (a .unchanged z n) ∙ there l e;
+            idle = λ i. ap borrowedOf (a .idle i) ∙ there l e;
             is-cut = λ z.
                 let x = a .is-cut z in
                 subst (λ (ws : List MediaWrite). Cut Linked ws l (asBytes (storeDoes P c (deviceIn l)))) (plan-same c)
@@ -220,13 +220,13 @@ module _ (P : ℕ) where
   module _ (hp : P ≤ 256) (hb : fileBytes P < 4294967296) where
     -- ---- any bytes
 
-    refused-answers : (c : Call) (l : Lent) → isState (l .state) ≡ false → Answers Linked c l (linkedDoes P c l)
+    refused-answers : (c : Call) (l : Borrowed) → isState (l .state) ≡ false → Answers Linked c l (linkedDoes P c l)
     refused-answers c l e =
-        subst (λ (r : Reply Lent). Answers Linked c l r) (sym (other c l e))
+        subst (λ (r : Reply Borrowed). Answers Linked c l r) (sym (other c l e))
         (record {
           count = 0;
           in-order = shape-first c;
-          silent = λ _. refl;
+          output-kept = λ _. refl;
           unchanged = λ _ _. refl;
           idle = λ _. refl;
           is-cut = λ z. absurd (omega arith);
@@ -250,11 +250,11 @@ module _ (P : ℕ) where
     pub linked-1 : Demand1 Linked
     linked-1 c l = cases (isState (l .state)) (λ e. answers l e hp hb c) (λ e. refused-answers c l e)
 
-    -- a done call was lent as many bytes as a state has
-    done-state : (c : Call) (l : Lent) → IsDone (linkedDoes P c l .answer) → isState (l .state) ≡ true
+    -- a done call was borrowed as many bytes as a state has
+    done-state : (c : Call) (l : Borrowed) → IsDone (linkedDoes P c l .answer) → isState (l .state) ≡ true
     done-state c l is =
         cases (isState (l .state)) (λ e. e) (λ e.
-        let z : 2 ≡ 0 = sym (ap (λ (r : Reply Lent). r .answer .number) (other c l e)) ∙ is in absurd (omega arith))
+        let z : 2 ≡ 0 = sym (ap (λ (r : Reply Borrowed). r .answer .number) (other c l e)) ∙ is in absurd (omega arith))
 
     -- ---- runs
 
@@ -272,7 +272,7 @@ module _ (P : ℕ) where
     down-state = sound-bytes P hp hb [] downState (down-sound P [])
 
     -- bytes of a state are left
-    state-after : (c : Call) (l : Lent) → isState (l .state) ≡ true → isState (linkedDoes P c l .device .state) ≡ true
+    state-after : (c : Call) (l : Borrowed) → isState (l .state) ≡ true → isState (linkedDoes P c l .device .state) ≡ true
     state-after c l e =
         let a = linked-1 c l in
         split-eq (linkedDoes P c l .answer .number) 0
@@ -284,7 +284,7 @@ module _ (P : ℕ) where
 
     step-same : (w : World Linked) (e : Event Linked) → isState (w .device .state) ≡ true → world (step Linked w e) ≡ step (store P) (world w) (event e)
     step-same w (call c) h =
-        let after : Reply Lent → World (store P) = λ r. record { device = deviceIn (r .device); files = feed c (r .answer) (fileOn P (r .device .media)) (w .files) } in
+        let after : Reply Borrowed → World (store P) = λ r. record { device = deviceIn (r .device); files = feed c (r .answer) (fileOn P (r .device .media)) (w .files) } in
         let r : Reply Device = storeDoes P c (deviceIn (w .device)) in
         ap after (same (w .device) h c)
         ∙ ap (λ (x : Device). record { device = x; files = feed c (r .answer) (fileOn P (r .device .media)) (w .files) }) (said (w .device) h c)
@@ -296,7 +296,7 @@ module _ (P : ℕ) where
     keeps w (powerLost x) inv =
         (subst (Model.Holds P) (sym (step-same w (powerLost x) (inv .1))) (Model.keeps P (world w) (powerLost x) (inv .0)), down-state)
 
-    start-holds : (l : Lent) (budget : ℕ) → IsDone (Linked .does (mount budget) l .answer) → Holds (start Linked (Linked .does (mount budget) l .device))
+    start-holds : (l : Borrowed) (budget : ℕ) → IsDone (Linked .does (mount budget) l .answer) → Holds (start Linked (Linked .does (mount budget) l .device))
     start-holds l budget is =
         let e : isState (l .state) ≡ true = done-state (mount budget) l is in
         let i = images l e (mount budget) in
@@ -350,8 +350,8 @@ module _ (P : ℕ) where
 
     -- ---- that there are runs
 
-    abbrev blank : Lent
-    blank = lentOf (Model.empty P)
+    abbrev blank : Borrowed
+    blank = borrowedOf (Model.empty P)
 
     begins : Begins Linked P 0
     begins = record {
@@ -366,7 +366,7 @@ module _ (P : ℕ) where
           (subst (λ (d : Device). IsDone (storeDoes P (mount (Model.enough P)) d .answer)) (sym (back (Model.empty P) down-shaped)) (Model.empty-mounts P));
     }
 
-    loses : (l : Lent) → Loses Linked l
+    loses : (l : Borrowed) → Loses Linked l
     loses l = record {
       part = λ x. refl;
       down = λ x. inverse .there-and-back downState down-shaped;
@@ -377,21 +377,21 @@ module _ (P : ℕ) where
 
     -- ---- format
 
-    formats-state : (budget : ℕ) (l : Lent) → isState (l .state) ≡ true → Formats Linked budget l (Linked .formats budget l)
+    formats-state : (budget : ℕ) (l : Borrowed) → isState (l .state) ≡ true → Formats Linked budget l (Linked .formats budget l)
     formats-state budget l e =
         let d : Device = deviceIn l in
         let x = format-claim P budget d in
         let r : Reply Device = store P .formats budget d in
-        let b : deviceIn (lentOf (r .device)) ≡ r .device = back (r .device) (format-shaped P d budget (shaped (l .state))) in
+        let b : deviceIn (borrowedOf (r .device)) ≡ r .device = back (r .device) (format-shaped P d budget (shaped (l .state))) in
         let down : IsDone (r .answer) ⊎ r .answer .number ≡ 9 → r .device .cache ≡ downState = λ z. elim z [
           | inl y ↦ ap (λ (y : Device). y .cache) (x .leaves y)
           | inr y ↦ ap (λ (y : Device). y .cache) (x .is-cut y .leaves)
         ] in
-        subst (λ (q : Reply Lent). Formats Linked budget l q) (sym (rw (are-bytes l e) (changes-same l e (Mounting.format P budget))))
+        subst (λ (q : Reply Borrowed). Formats Linked budget l q) (sym (rw (are-bytes l e) (changes-same l e (Mounting.format P budget))))
         (record {
           in-order = rw e (x .in-order);
-          silent = refl;
-          unchanged = λ z n. ap lentOf (x .unchanged z n) ∙ there l e;
+          no-output = refl;
+          unchanged = λ z n. ap borrowedOf (x .unchanged z n) ∙ there l e;
           is-cut = λ z. let y = x .is-cut z in record { writes = y .writes; pays = y .pays; leaves = b ∙ y .leaves; made = linked-made _ _ _ _ (y .made) };
           leaves = λ z. b ∙ x .leaves z;
           empty = x .empty;
@@ -401,17 +401,17 @@ module _ (P : ℕ) where
           untouched = x .untouched;
         })
 
-    formats-other : (budget : ℕ) (l : Lent) → isState (l .state) ≡ false → Linked .formats budget l ≡ record { answer = SHAPE; output = []; device = l }
+    formats-other : (budget : ℕ) (l : Borrowed) → isState (l .state) ≡ false → Linked .formats budget l ≡ record { answer = SHAPE; output = []; device = l }
     unfolding isState stateShape onBytes
     formats-other budget l e = cases (areBytes (l .state)) (λ b. rw (b, rw b at e)) (λ b. rw b)
 
     linked-format : Format Linked
     linked-format budget l =
         cases (isState (l .state)) (λ e. formats-state budget l e) (λ e.
-        subst (λ (q : Reply Lent). Formats Linked budget l q) (sym (formats-other budget l e))
+        subst (λ (q : Reply Borrowed). Formats Linked budget l q) (sym (formats-other budget l e))
         (record {
           in-order = rw e;
-          silent = refl;
+          no-output = refl;
           unchanged = λ _ _. refl;
           is-cut = λ z. absurd (omega arith);
           leaves = λ z. absurd (omega arith);
@@ -431,9 +431,9 @@ module _ (P : ℕ) where
     linked-demands = record {
       demands = record {
         begins = begins;
-        any-part = λ m. (lent m [] [], refl);
+        any-part = λ m. (borrowed m [] [], refl);
         any-cache = λ l bytes c h _.
-            let x : Device = deviceOf (l .media) bytes c in (lentOf x, back x (held-shaped c h), refl, refl, held-bytes c h);
+            let x : Device = deviceOf (l .media) bytes c in (borrowedOf x, back x (held-shaped c h), refl, refl, held-bytes c h);
         loses = loses;
         priced = λ c l _. Model.priced Linked (λ m ws. refl) (λ m ws. refl) (l .media) (plan Linked c l);
         format-priced = λ l _. Model.priced Linked (λ m ws. refl) (λ m ws. refl) (l .media) (formatWrites Linked l);
@@ -446,7 +446,7 @@ module _ (P : ℕ) where
       media = λ l. refl;
       alone = λ p q e. e;
       intact = λ l. refl;
-      any = λ d h. (lentOf d, back d (held-shaped (d .cache) h), held-bytes (d .cache) h);
+      any = λ d h. (borrowedOf d, back d (held-shaped (d .cache) h), held-bytes (d .cache) h);
     }
 
 pub this-linked-store : LinkedDemands

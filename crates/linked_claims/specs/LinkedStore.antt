@@ -17,11 +17,11 @@ use Rattle.device.specs.Syncing as Syncing
 use Rattle.device.specs.Mounting as Mounting
 use Rattle.state_bytes.specs.Encoding.{stateBytes, encode}
 use Rattle.state_bytes.specs.Inverse.{areBytes}
-use Rattle.state_bytes.specs.InPlace.{Lent, lent, deviceIn, onBytes, readBytes, lookCountBytes, lookSpanBytes}
+use Rattle.state_bytes.specs.InPlace.{Borrowed, borrowed, deviceIn, onBytes, readBytes, lookCountBytes, lookSpanBytes}
 use Rattle.model.specs.Run.{Call, Reply, Interface}
 use Rattle.model.specs.Run.Call.{read, look, write, truncate, sync, mount}
 use Rattle.model.specs.Claims.{asItCame}
-use Rattle.model.specs.Store.{silent}
+use Rattle.model.specs.Store.{withoutOutput}
 use Rattle.model.specs.Demands.{PlainDemands}
 
 -- the bytes of some state
@@ -30,31 +30,31 @@ isState xs = areBytes xs && eqb (length xs) stateBytes
 
 module _ (P : ℕ) where
   -- the calls, as the contracts of the code say them; the output of a look is what lies at its span
-  abbrev pub onSlices : Call → Lent → Reply Lent
+  abbrev pub onSlices : Call → Borrowed → Reply Borrowed
   onSlices (read f position buffer) l =
       let r : Result (List ℕ) = readBytes P f position buffer l in record { answer = r .answer; output = r .left; device = l }
   onSlices (look f position) l =
       record { answer = lookCountBytes P f position l; output = spanBytes (deviceIn l) (lookSpanBytes P f position l); device = l }
-  onSlices (write f position bytes) l = silent (onBytes (Writing.write P f position bytes) l)
-  onSlices (truncate f n) l = silent (onBytes (Truncating.truncate P f n) l)
-  onSlices (sync f budget) l = silent (onBytes (Syncing.sync P f budget) l)
-  onSlices (mount budget) l = silent (onBytes (Mounting.mount P budget) l)
+  onSlices (write f position bytes) l = withoutOutput (onBytes (Writing.write P f position bytes) l)
+  onSlices (truncate f n) l = withoutOutput (onBytes (Truncating.truncate P f n) l)
+  onSlices (sync f budget) l = withoutOutput (onBytes (Syncing.sync P f budget) l)
+  onSlices (mount budget) l = withoutOutput (onBytes (Mounting.mount P budget) l)
 
   -- a state that no slice of bytes can be is refused here, so that the claims have no premise
-  abbrev pub ofBytes : Lent → List ℕ → Reply Lent → Reply Lent
+  abbrev pub ofBytes : Borrowed → List ℕ → Reply Borrowed → Reply Borrowed
   ofBytes l output r = cond (areBytes (l .state)) r (record { answer = SHAPE; output = output; device = l })
 
-  abbrev pub linkedDoes : Call → Lent → Reply Lent
+  abbrev pub linkedDoes : Call → Borrowed → Reply Borrowed
   linkedDoes c l = ofBytes l (asItCame c) (onSlices c l)
 
   -- the image is the device that the bytes say; after lost power the caller has what `boxstore_down` leaves
   abbrev pub linkedStore : Interface
   linkedStore = record {
-    State = Lent;
+    State = Borrowed;
     does = linkedDoes;
-    formats = λ budget l. ofBytes l [] (silent (onBytes (Mounting.format P budget) l));
+    formats = λ budget l. ofBytes l [] (withoutOutput (onBytes (Mounting.format P budget) l));
     Loss = List ℕ;
-    lose = λ frames l. lent (l .media) frames (encode downState);
+    lose = λ frames l. borrowed (l .media) frames (encode downState);
     pages = λ l. P;
     image = deviceIn;
     isShaped = λ l. isState (l .state);

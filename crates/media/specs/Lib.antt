@@ -1,3 +1,4 @@
 pub mod Geometry
 pub mod Write
+pub mod Moments
 pub mod Direct

@@ -10,7 +10,7 @@ ghost use lib.ListN.{length};
 ghost use Rattle.answer.specs.Coded.{coded};
 ghost use Rattle.memory.specs.Bytes.{zeros, overwrite};
 ghost use Rattle.media.specs.Geometry.{files, pagesPerFile, fileBytes, mediaBytes, fileStart};
-ghost use Rattle.media.specs.Write.{mediaOf};
+ghost use Rattle.media.specs.Moments.{mediaAtEntry, mediaAtExit};
 ghost use Rattle.media.specs.Direct.{pageAnswer, pageAfter, sizeAnswer, sizeAfter, trimAnswer, trimAfter};
 
 // The media is FILES * PAGES_PER_FILE * PAGE_BYTES bytes, one file after the other, and FILES sizes.
@@ -37,16 +37,16 @@ pub fn write_page(page: &mut [u8], bytes: &[u8]) -> Answer
 
 // SIZE: the stored size of one file becomes n. Of the media's bytes only the length is used.
 pub fn write_size(media: &[u8], sizes: &mut [u32], file: usize, n: usize) -> Answer
-    ensures { λ r. ⌜ (coded r ≡ sizeAnswer pagesPerFile (mediaOf (now (media .entry)) (now (sizes .entry))) file n)
-        × (mediaOf (now (media .entry)) (now (sizes .exit)) ≡ sizeAfter pagesPerFile (mediaOf (now (media .entry)) (now (sizes .entry))) file n) ⌝ }
+    ensures { λ r. ⌜ (coded r ≡ sizeAnswer pagesPerFile (mediaAtEntry media sizes) file n)
+        × (mediaAtExit media sizes ≡ sizeAfter pagesPerFile (mediaAtEntry media sizes) file n) ⌝ }
 {
     write_size_in(media, sizes, file, n, PAGES_PER_FILE)
 }
 
 // TRIM: the bytes of one file from n on become 0, and its stored size becomes n.
 pub fn trim(media: &mut [u8], sizes: &mut [u32], file: usize, n: usize) -> Answer
-    ensures { λ r. ⌜ (coded r ≡ trimAnswer pagesPerFile (mediaOf (now (media .entry)) (now (sizes .entry))) file n)
-        × (mediaOf (now (media .exit)) (now (sizes .exit)) ≡ trimAfter pagesPerFile (mediaOf (now (media .entry)) (now (sizes .entry))) file n) ⌝ }
+    ensures { λ r. ⌜ (coded r ≡ trimAnswer pagesPerFile (mediaAtEntry media sizes) file n)
+        × (mediaAtExit media sizes ≡ trimAfter pagesPerFile (mediaAtEntry media sizes) file n) ⌝ }
 {
     trim_in(media, sizes, file, n, PAGES_PER_FILE)
 }
@@ -54,11 +54,11 @@ pub fn trim(media: &mut [u8], sizes: &mut [u32], file: usize, n: usize) -> Answe
 // SIZE and TRIM over the number of pages in a file. The greatest file size fits a stored size.
 fn write_size_in(media: &[u8], sizes: &mut [u32], file: usize, n: usize, pages: usize) -> Answer
     requires { ⌜ fileBytes pages < 2 ^ 32 ⌝ }
-    ensures { λ r. ⌜ (coded r ≡ sizeAnswer pages (mediaOf (now (media .entry)) (now (sizes .entry))) file n)
-        × (mediaOf (now (media .entry)) (now (sizes .exit)) ≡ sizeAfter pages (mediaOf (now (media .entry)) (now (sizes .entry))) file n) ⌝ }
+    ensures { λ r. ⌜ (coded r ≡ sizeAnswer pages (mediaAtEntry media sizes) file n)
+        × (mediaAtExit media sizes ≡ sizeAfter pages (mediaAtEntry media sizes) file n) ⌝ }
 {
-    let admission = admit(media, sizes, file, n, pages);
-    match admission {
+    let admitted = admit(media, sizes, file, n, pages);
+    match admitted {
         Answer::Refused(refusal) => Answer::Refused(refusal),
         Answer::Done(_) => {
             sizes[file] = n as u32;
@@ -69,11 +69,11 @@ fn write_size_in(media: &[u8], sizes: &mut [u32], file: usize, n: usize, pages: 
 
 fn trim_in(media: &mut [u8], sizes: &mut [u32], file: usize, n: usize, pages: usize) -> Answer
     requires { ⌜ fileBytes pages < 2 ^ 32 ⌝ }
-    ensures { λ r. ⌜ (coded r ≡ trimAnswer pages (mediaOf (now (media .entry)) (now (sizes .entry))) file n)
-        × (mediaOf (now (media .exit)) (now (sizes .exit)) ≡ trimAfter pages (mediaOf (now (media .entry)) (now (sizes .entry))) file n) ⌝ }
+    ensures { λ r. ⌜ (coded r ≡ trimAnswer pages (mediaAtEntry media sizes) file n)
+        × (mediaAtExit media sizes ≡ trimAfter pages (mediaAtEntry media sizes) file n) ⌝ }
 {
-    let admission = admit(media, sizes, file, n, pages);
-    match admission {
+    let admitted = admit(media, sizes, file, n, pages);
+    match admitted {
         Answer::Refused(refusal) => Answer::Refused(refusal),
         Answer::Done(_) => {
             let size = n as u32;
@@ -101,7 +101,7 @@ fn clear_from(media: &mut [u8], file: usize, n: usize, pages: usize)
 // The refusals of SIZE, which TRIM shares, in their order.
 fn admit(media: &[u8], sizes: &[u32], file: usize, n: usize, pages: usize) -> Answer
     requires { ⌜ fileBytes pages < 2 ^ 32 ⌝ }
-    ensures { λ r. ⌜ coded r ≡ sizeAnswer pages (mediaOf (now (media .entry)) (now (sizes .entry))) file n ⌝ }
+    ensures { λ r. ⌜ coded r ≡ sizeAnswer pages (mediaAtEntry media sizes) file n ⌝ }
 {
     let file_len = PAGE_BYTES * pages;
     if media.len() != FILES * file_len {

@@ -19,7 +19,7 @@ use Rattle.model.specs.Run.{IsDone}
 use Rattle.model.specs.View.{mediaAfter}
 use Rattle.model.specs.Claims.{Made, Cut}
 use Rattle.model.specs.Format.{Format}
-use Rattle.model.specs.Store.{store, silent}
+use Rattle.model.specs.Store.{store, withoutOutput}
 use Rattle.model.proofs.Refusals.{cut-at, plain-made, plain-persists}
 
 pub format-claim : (P : ℕ) → Format (store P)
@@ -29,12 +29,12 @@ format-claim P budget d =
     record {
       in-order =
           admit-answer d (mediaShape P (d .media)) _ ∙ ap (firstRefusal (mediaShape P (d .media))) (budget-answer P budget (formatPlan P (d .media)) downState d);
-      silent = refl;
+      no-output = refl;
       unchanged =
           format-by P budget d (λ r. r .answer .number ≢ 0 → r .answer .number ≢ 9 → r .left ≡ d)
           (λ k lo hi _ _. refl) (λ l _ z. absurd (z refl)) (λ l lb ls z _. absurd (z refl));
       is-cut =
-          format-by P budget d (λ r. r .answer .number ≡ 9 → Cut (store P) (formatPlan P (d .media)) d (silent r))
+          format-by P budget d (λ r. r .answer .number ≡ 9 → Cut (store P) (formatPlan P (d .media)) d (withoutOutput r))
           (λ k lo hi z. absurd (hi z))
           (λ l z. cut-at P d ws budget [] l)
           (λ l lb ls z. absurd (omega arith));

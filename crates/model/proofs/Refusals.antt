@@ -36,7 +36,7 @@ use Rattle.model.specs.Run.{Call, IsDone, Reply}
 use Rattle.model.specs.Run.Call.{read, look, write, truncate, sync, mount}
 use Rattle.model.specs.View.{sameBytes, sameMedia, onFile, conditions, plan, mediaAfter, limits}
 use Rattle.model.specs.Claims.{asItCame, isIdle, Made, Cut, Persists, Demand1}
-use Rattle.model.specs.Store.{keeping, silent, storeDoes, store}
+use Rattle.model.specs.Store.{keeping, withoutOutput, storeDoes, store}
 use Rattle.model.proofs.Mounts.{done-fit}
 use Rattle.model.proofs.Work.{admitted-fit, works}
 
@@ -133,13 +133,13 @@ module _ (P : ℕ) where
       (λ ad. when-done c d _ _ d (record { stored = refl; mounted = ad .mounted; sound = ad .sound }))
   leaves (write f position bytes) d =
       let c : Call = write f position bytes in
-      write-by P f position bytes d (λ r. Leaves (write f position bytes) d (silent r)) (when-refused c d)
+      write-by P f position bytes d (λ r. Leaves (write f position bytes) d (withoutOutput r)) (when-refused c d)
       (λ ad room.
       let w = write-leaves P d (admitted-fit P d ad) (ad .frames) f position bytes (ad .file) (leb-true _ _ (ad .in-range)) .1 in
       when-done c d _ [] _ (record { stored = w .media; mounted = w .mounted ∙ ad .mounted; sound = fit-sound P _ (w .fit) (w .mounted ∙ ad .mounted) }))
   leaves (truncate f n) d =
       let c : Call = truncate f n in
-      truncate-by P f n d (λ r. Leaves (truncate f n) d (silent r)) (when-refused c d)
+      truncate-by P f n d (λ r. Leaves (truncate f n) d (withoutOutput r)) (when-refused c d)
       (λ ad.
       let x : Fit P d = admitted-fit P d ad in
       when-done c d _ [] _
@@ -150,7 +150,7 @@ module _ (P : ℕ) where
       }))
   leaves (sync f budget) d =
       let c : Call = sync f budget in
-      sync-by P f budget d (λ r. Leaves (sync f budget) d (silent r)) (when-refused c d)
+      sync-by P f budget d (λ r. Leaves (sync f budget) d (withoutOutput r)) (when-refused c d)
       (λ ad l. when-cut c d budget l)
       (λ ad l. when-done c d _ [] _
       (record {
@@ -160,7 +160,7 @@ module _ (P : ℕ) where
       }))
   leaves (mount budget) d =
       let c : Call = mount budget in
-      mount-by P budget d (λ r. Leaves (mount budget) d (silent r)) (when-refused c d)
+      mount-by P budget d (λ r. Leaves (mount budget) d (withoutOutput r)) (when-refused c d)
       (λ h l. when-cut c d budget h)
       (λ h l z. when-done c d _ [] _ (record { stored = refl; mounted = refl; sound = fit-sound P _ (done-fit P d _ l z) refl }))
 
@@ -199,7 +199,7 @@ module _ (P : ℕ) where
       record {
         count = ordered c d .0;
         in-order = ordered c d .1;
-        silent = l .quiet;
+        output-kept = l .quiet;
         unchanged = l .unchanged;
         idle = idle c d;
         is-cut = l .is-cut;

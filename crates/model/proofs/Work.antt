@@ -27,7 +27,7 @@ use Rattle.device.proofs.Syncing.{Ready, sync-by, sync-done, syncedDevice, sync
 use Rattle.device.proofs.Mounting.{Left, mount-by}
 use Rattle.model.specs.Run.{Call, IsDone}
 use Rattle.model.specs.Run.Call.{read, look, write, truncate, sync, mount}
-use Rattle.model.specs.Store.{store, storeDoes, keeping, silent}
+use Rattle.model.specs.Store.{store, storeDoes, keeping, withoutOutput}
 use Rattle.model.specs.View.{plan}
 use Rattle.model.specs.Work.{Seen, seen, Alike, withBytes, cutTo, synced, asStored, Changes, Works}
 use Rattle.model.proofs.Posix.{write-ends}
@@ -163,11 +163,11 @@ module _ (P : ℕ) where
     write-used P f position bytes d,
   )
   works (truncate f n) d =
-      truncate-by P f n d (λ r. IsDone (r .answer) → Works P (truncate f n) d (d .media) 0 (silent r))
+      truncate-by P f n d (λ r. IsDone (r .answer) → Works P (truncate f n) d (d .media) 0 (withoutOutput r))
       (λ k lo hi z. absurd (omega arith))
       (λ ad z. (refl, refl, truncated-all P d f n ad, truncated-slots f n d))
   works (sync f budget) d =
-      sync-by P f budget d (λ r. IsDone (r .answer) → Works P (sync f budget) d (d .media) (length (syncPlan P d f)) (silent r))
+      sync-by P f budget d (λ r. IsDone (r .answer) → Works P (sync f budget) d (d .media) (length (syncPlan P d f)) (withoutOutput r))
       (λ k lo hi z. absurd (omega arith))
       (λ ad l z. absurd (omega arith))
       (λ ad l z. (
@@ -181,7 +181,7 @@ module _ (P : ℕ) where
             (synced-all P d f r, sync-done P d f r .byte),
       ))
   works (mount budget) d =
-      mount-by P budget d (λ r. IsDone (r .answer) → Works P (mount budget) d (d .media) (length (mountPlan P (d .media))) (silent r))
+      mount-by P budget d (λ r. IsDone (r .answer) → Works P (mount budget) d (d .media) (length (mountPlan P (d .media))) (withoutOutput r))
       (λ k lo hi z. absurd (omega arith))
       (λ h l z. absurd (omega arith))
       (λ h l c z. (

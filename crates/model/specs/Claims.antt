@@ -83,7 +83,7 @@ pub record Answers (I : Interface) (c : Call) (s : I .State) (r : Reply (I .Stat
   -- the first refusal that applies, and done only where none does
   pub in-order : r .answer ≡ firstRefusal (conditions I c s ++ limits I c s) (done count)
   -- a refusal leaves the output as it came, and one other than CUT changes nothing
-  pub silent : r .answer .number ≢ 0 → r .output ≡ asItCame c
+  pub output-kept : r .answer .number ≢ 0 → r .output ≡ asItCame c
   pub unchanged : r .answer .number ≢ 0 → r .answer .number ≢ 9 → r .device ≡ s
   pub idle : isIdle c ≡ true → r .device ≡ s
   pub is-cut : r .answer .number ≡ 9 → Cut I (plan I c s) s r

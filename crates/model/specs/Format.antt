@@ -22,7 +22,7 @@ module _ (I : Interface) where
   pub record Formats (budget : ℕ) (s : I .State) (r : Reply (I .State)) : Type 0 where
     -- SHAPE, damage, then running out, then CUT
     pub in-order : r .answer ≡ firstRefusal (anew I s ++ paying I (I .partOf s) (formatWrites s) budget) (done (I .cost (I .partOf s) (formatWrites s)))
-    pub silent : r .output ≡ []
+    pub no-output : r .output ≡ []
     pub unchanged : r .answer .number ≢ 0 → r .answer .number ≢ 9 → r .device ≡ s
     pub is-cut : r .answer .number ≡ 9 → Cut I (formatWrites s) s r
     -- done leaves the media as its media writes leave it, and the device down: eight empty files on zeros

@@ -30,16 +30,16 @@ abbrev pub keeping : Device → Result (List ℕ) → Reply Device
 keeping d r = record { answer = r .answer; output = r .left; device = d }
 
 -- a call with no output
-abbrev pub silent : {S : Type 0} → Result S → Reply S
-silent r = record { answer = r .answer; output = []; device = r .left }
+abbrev pub withoutOutput : {S : Type 0} → Result S → Reply S
+withoutOutput r = record { answer = r .answer; output = []; device = r .left }
 
 abbrev pub doing : Calls → Call → Device → Reply Device
 doing s (read f position buffer) d = keeping d (s .reading f position buffer d)
 doing s (look f position) d = keeping d (s .looking f position d)
-doing s (write f position bytes) d = silent (s .writing f position bytes d)
-doing s (truncate f n) d = silent (s .truncating f n d)
-doing s (sync f budget) d = silent (s .syncing f budget d)
-doing s (mount budget) d = silent (s .mounting budget d)
+doing s (write f position bytes) d = withoutOutput (s .writing f position bytes d)
+doing s (truncate f n) d = withoutOutput (s .truncating f n d)
+doing s (sync f budget) d = withoutOutput (s .syncing f budget d)
+doing s (mount budget) d = withoutOutput (s .mounting budget d)
 
 -- without power only the media stays: the state is down, the page frames have any bytes
 abbrev pub storeLoses : List ℕ → Device → Device
@@ -53,7 +53,7 @@ abbrev pub storeWith : ℕ → Calls → Interface
 storeWith P calls = record {
   State = Device;
   does = doing calls;
-  formats = λ budget d. silent (calls .formatting budget d);
+  formats = λ budget d. withoutOutput (calls .formatting budget d);
   Loss = List ℕ;
   lose = storeLoses;
   pages = λ d. P;

@@ -82,7 +82,7 @@ table =
     -- write 300 bytes at 0: sync needs 3 stores
     ∷ (gives (write 1 0 (A 300)) (done 300) [] ∷ gives (sync 1 3) (done 3) [] ∷ [])
     ∷ (gives (write 1 0 (A 300)) (done 300) [] ∷ gives (sync 1 2) (CUT 2) [] ∷ [])
-    -- a second sync with grant 0 completes
+    -- a second sync with budget 0 completes
     ∷ (synced300 ++ (gives (sync 1 0) (done 0) [] ∷ []))
     -- those 300 synced, truncate to 100, then to 200: sync needs 2; bytes 100 to 199 are 0
     ∷ (synced300

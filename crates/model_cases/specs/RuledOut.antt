@@ -30,7 +30,7 @@ use Rattle.model.specs.Claims.{asItCame, Demand1, Demand2, Demand3}
 use Rattle.model.specs.Demands.{Demands, PlainDemands}
 use Rattle.model.specs.View.{EXHAUSTED, sameBytes, anew, conditions, plan}
 use Rattle.model.specs.Format.{Format}
-use Rattle.model.specs.Store.{Calls, silent, storeLoses, storeWith, storeCalls, store}
+use Rattle.model.specs.Store.{Calls, withoutOutput, storeLoses, storeWith, storeCalls, store}
 
 -- ---- this store with one call changed
 
@@ -372,7 +372,7 @@ chatters =
 -- a store that refuses everything by a test of its own
 abbrev pub refusesAlone : Interface
 refusesAlone =
-    interface 1 (λ c d. record { answer = SHAPE; output = asItCame c; device = d }) (λ budget d. silent (give SHAPE d)) (λ d. false) (λ m. length) 0 (λ ws. 0)
+    interface 1 (λ c d. record { answer = SHAPE; output = asItCame c; device = d }) (λ budget d. withoutOutput (give SHAPE d)) (λ d. false) (λ m. length) 0 (λ ws. 0)
 
 -- a store on which every sync runs out of something
 abbrev pub wornOut : Interface

@@ -15,8 +15,8 @@ use Rattle.device.specs.declared.CacheState.{CacheState}
 use Rattle.device.specs.Device.{slotCount, freeSlot, holds}
 use Rattle.device.specs.Sound.{inRange, isSound, soundTests}
 use Rattle.device.proofs.Device.{holds-is}
-use Rattle.cache_state.specs.Tables.{slotTable, slotFor}
-use Rattle.cache_state.proofs.Pass.{range-is, slot-for}
+use Rattle.admission.specs.Tables.{slotTable, slotFor}
+use Rattle.admission.proofs.Pass.{range-is, slot-for}
 
 none-past : (stored : List ℕ) (c : CacheState) (f p : ℕ) → isSound pagesPerFile stored c ≡ true → length (c .slots) ≡ slotCount → pagesPerFile ≤ p
     → slotCount ≡ firstIndex (holds f p) (c .slots)

@@ -21,8 +21,9 @@ ghost use Rattle.device.specs.Current.{currentBytes};
 ghost use Rattle.device.specs.Admission.{give};
 ghost use Rattle.device.specs.Looking.{toPageEnd};
 ghost use Rattle.state_bytes.specs.Encoding.{decode};
-ghost use Rattle.state_bytes.specs.InPlace.{lent, lentTests, readBytes, lookCountBytes, lookSpanBytes};
-ghost use Rattle.cache_state.specs.Tables.{slotTable, slotFor, tableAfter};
+ghost use Rattle.state_bytes.specs.InPlace.{borrowedTests, readBytes, lookCountBytes, lookSpanBytes};
+ghost use Rattle.admission.specs.Tables.{slotTable, slotFor, tableAfter};
+ghost use Rattle.state_bytes.specs.Moments.{borrowedAtEntry};
 
 // The refusals of a call at a position of a file, in their order. Where none applies, the table has the slot of each page.
 fn admit_at(
@@ -32,20 +33,21 @@ fn admit_at(
     state: &[u8],
     file: usize,
     position: usize,
-    slots: &mut [u8; cache_state::TABLE],
+    table: &mut [u8; admission::TABLE],
 ) -> Answer
-    ensures { λ r. ⌜ (coded r ≡ firstRefusal (lentTests pagesPerFile (lent (mediaOf (now (media .entry)) (now (sizes .entry))) (now (frames .entry)) (now (state .entry))) file (leb position (fileBytes pagesPerFile))) (done 0))
-        × (now (slots .exit) ≡ tableAfter (coded r) ((decode (now (state .entry))) .slots)) ⌝ }
+    ensures { λ r. ⌜ (coded r ≡ firstRefusal (borrowedTests pagesPerFile (borrowedAtEntry media sizes frames state) file
+        (leb position (fileBytes pagesPerFile))) (done 0))
+        × (now (table .exit) ≡ tableAfter (coded r) ((decode (now (state .entry))) .slots)) ⌝ }
 {
     let greatest = PAGE_BYTES * PAGES_PER_FILE;
-    cache_state::admit(
+    admission::admit(
         media.len(),
         sizes,
         frames.len(),
         state,
         file,
         position <= greatest,
-        slots,
+        table,
     )
 }
 
@@ -53,7 +55,8 @@ fn admit_at(
 fn read_frame(frames: &[u8], at: usize, k: usize, buffer: &mut [u8])
     requires { ⌜ (length (now frames) ≡ framesBytes) × (k < slotCount) × (at % pageBytes + length (now buffer) ≤ pageBytes) ⌝ }
     ensures { λ r. ⌜ ((media : Media) (c : CacheState) (file : ℕ) → k ≡ firstIndex (holds file (at / pageBytes)) (c .slots)
-        → now (buffer .exit) ≡ currentBytes pagesPerFile (deviceOf media (now (frames .entry)) c) file at (length (now (buffer .entry)))) ⌝ }
+        → now (buffer .exit) ≡ currentBytes pagesPerFile (deviceOf media (now (frames .entry)) c) file at
+        (length (now (buffer .entry)))) ⌝ }
 {
     let first = PAGE_BYTES * k + at % PAGE_BYTES;
     let last = first + buffer.len();
@@ -62,11 +65,14 @@ fn read_frame(frames: &[u8], at: usize, k: usize, buffer: &mut [u8])
 
 // The current bytes of a file from `at` on, none of whose pages is cached, fill the buffer. The file has this floor.
 fn read_stored(media: &[u8], floor: usize, file: usize, at: usize, buffer: &mut [u8])
-    requires { ⌜ (length (now media) ≡ mediaBytes pagesPerFile) × (file < files) × (at + length (now buffer) ≤ fileBytes pagesPerFile) ⌝ }
+    requires { ⌜ (length (now media) ≡ mediaBytes pagesPerFile) × (file < files)
+        × (at + length (now buffer) ≤ fileBytes pagesPerFile) ⌝ }
     ensures { λ r. ⌜ ((stored frames : List ℕ) (c : CacheState)
-        → ((p : ℕ) → at / pageBytes ≤ p → pageBytes * p < at + length (now (buffer .entry)) → slotCount ≤ firstIndex (holds file p) (c .slots))
+        → ((p : ℕ) → at / pageBytes ≤ p → pageBytes * p < at + length (now (buffer .entry))
+        → slotCount ≤ firstIndex (holds file p) (c .slots))
         → floor ≡ getD (c .floor) file 0
-        → now (buffer .exit) ≡ currentBytes pagesPerFile (deviceOf (mediaOf (now (media .entry)) stored) frames c) file at (length (now (buffer .entry)))) ⌝ }
+        → now (buffer .exit) ≡ currentBytes pagesPerFile (deviceOf (mediaOf (now (media .entry)) stored) frames c) file at
+        (length (now (buffer .entry)))) ⌝ }
 {
     let n = buffer.len();
     let from = file * (PAGE_BYTES * PAGES_PER_FILE) + at;
@@ -74,20 +80,21 @@ fn read_stored(media: &[u8], floor: usize, file: usize, at: usize, buffer: &mut 
     memory::copy_padded(buffer, &media[from..end]);
 }
 
-// The first page of a file from `page` on, below `last`, that is cached, or `last`.
-fn cached_from(slots: &[u8; cache_state::TABLE], file: usize, page: usize, last: usize) -> usize
-    requires { ⌜ page ≤ last ⌝ }
-    ensures { λ r. ⌜ (page ≤ r) × (r ≤ last) × ((p : ℕ) → page ≤ p → p < r → slotCount ≤ slotFor pagesPerFile (now (slots .entry)) file p)
-        × (r < last → slotFor pagesPerFile (now (slots .entry)) file r < slotCount) ⌝ }
+// The first page of a file from `page` on, below `end`, that is cached, or `end`.
+fn cached_from(table: &[u8; admission::TABLE], file: usize, page: usize, end: usize) -> usize
+    requires { ⌜ page ≤ end ⌝ }
+    ensures { λ r. ⌜ (page ≤ r) × (r ≤ end)
+        × ((p : ℕ) → page ≤ p → p < r → slotCount ≤ slotFor pagesPerFile (now (table .entry)) file p)
+        × (r < end → slotFor pagesPerFile (now (table .entry)) file r < slotCount) ⌝ }
 {
     let mut p = page;
-    while p < last {
-        if cache_state::slot_of(slots, file, p) < SLOTS {
+    while p < end {
+        if admission::slot_of(table, file, p) < SLOTS {
             return p;
         }
         p += 1;
     }
-    last
+    end
 }
 
 // `count` current bytes of a file from a position on fill the front of the buffer. The table has the slot of each page, and the file
@@ -95,7 +102,7 @@ fn cached_from(slots: &[u8; cache_state::TABLE], file: usize, page: usize, last:
 fn read_pages(
     media: &[u8],
     frames: &[u8],
-    slots: &[u8; cache_state::TABLE],
+    table: &[u8; admission::TABLE],
     floor: usize,
     file: usize,
     position: usize,
@@ -104,20 +111,22 @@ fn read_pages(
 )
     requires { ⌜ (length (now media) ≡ mediaBytes pagesPerFile) × (length (now frames) ≡ framesBytes) × (file < files)
         × (position + count ≤ fileBytes pagesPerFile) × (count ≤ length (now buffer)) ⌝ }
-    ensures { λ r. ⌜ ((stored : List ℕ) (c : CacheState) → now (slots .entry) ≡ slotTable pagesPerFile (c .slots) → floor ≡ getD (c .floor) file 0
-        → now (buffer .exit) ≡ overwrite (now (buffer .entry)) 0 (currentBytes pagesPerFile (deviceOf (mediaOf (now (media .entry)) stored) (now (frames .entry)) c) file position count)) ⌝ }
+    ensures { λ r. ⌜ ((stored : List ℕ) (c : CacheState) → now (table .entry) ≡ slotTable pagesPerFile (c .slots)
+        → floor ≡ getD (c .floor) file 0
+        → now (buffer .exit) ≡ overwrite (now (buffer .entry)) 0
+        (currentBytes pagesPerFile (deviceOf (mediaOf (now (media .entry)) stored) (now (frames .entry)) c) file position count)) ⌝ }
 {
-    let pages = (position + count + PAGE_BYTES - 1) / PAGE_BYTES;
+    let end_page = (position + count + PAGE_BYTES - 1) / PAGE_BYTES;
     let mut i = 0;
     while i < count {
         let at = position + i;
-        let k = cache_state::slot_of(slots, file, at / PAGE_BYTES);
+        let k = admission::slot_of(table, file, at / PAGE_BYTES);
         if k < SLOTS {
             let to = i + number::min(PAGE_BYTES - at % PAGE_BYTES, count - i);
             read_frame(frames, at, k, &mut buffer[i..to]);
             i = to;
         } else {
-            let stop = cached_from(slots, file, at / PAGE_BYTES + 1, pages);
+            let stop = cached_from(table, file, at / PAGE_BYTES + 1, end_page);
             let to = number::min(PAGE_BYTES * stop - position, count);
             read_stored(media, floor, file, at, &mut buffer[i..to]);
             i = to;
@@ -137,17 +146,17 @@ pub fn read(
     buffer: &mut [u8],
 ) -> Answer
     ensures { λ r. ⌜ give (coded r) (now (buffer .exit))
-        ≡ readBytes pagesPerFile file position (now (buffer .entry)) (lent (mediaOf (now (media .entry)) (now (sizes .entry))) (now (frames .entry)) (now (state .entry))) ⌝ }
+        ≡ readBytes pagesPerFile file position (now (buffer .entry)) (borrowedAtEntry media sizes frames state) ⌝ }
 {
-    let mut slots = [0u8; cache_state::TABLE];
-    let admission = admit_at(media, sizes, frames, state, file, position, &mut slots);
-    match admission {
+    let mut table = [0u8; admission::TABLE];
+    let admitted = admit_at(media, sizes, frames, state, file, position, &mut table);
+    match admitted {
         Answer::Refused(refusal) => Answer::Refused(refusal),
         Answer::Done(_) => {
             let logical = state_bytes::logical_at(state, file) as usize;
             let floor = state_bytes::floor_at(state, file) as usize;
             let count = number::min(buffer.len(), number::saturating_sub(logical, position));
-            read_pages(media, frames, &slots, floor, file, position, count, buffer);
+            read_pages(media, frames, &table, floor, file, position, count, buffer);
             Answer::Done(count)
         }
     }
@@ -174,11 +183,11 @@ pub fn look_span(
     file: usize,
     position: usize,
 ) -> Span
-    ensures { λ r. ⌜ r ≡ lookSpanBytes pagesPerFile file position (lent (mediaOf (now (media .entry)) (now (sizes .entry))) (now (frames .entry)) (now (state .entry))) ⌝ }
+    ensures { λ r. ⌜ r ≡ lookSpanBytes pagesPerFile file position (borrowedAtEntry media sizes frames state) ⌝ }
 {
-    let mut slots = [0u8; cache_state::TABLE];
-    let admission = admit_at(media, sizes, frames, state, file, position, &mut slots);
-    match admission {
+    let mut table = [0u8; admission::TABLE];
+    let admitted = admit_at(media, sizes, frames, state, file, position, &mut table);
+    match admitted {
         Answer::Refused(_) => Span {
             cached: false,
             from: 0,
@@ -187,7 +196,7 @@ pub fn look_span(
         Answer::Done(_) => {
             let logical = state_bytes::logical_at(state, file) as usize;
             let floor = state_bytes::floor_at(state, file) as usize;
-            let k = cache_state::slot_of(&slots, file, position / PAGE_BYTES);
+            let k = admission::slot_of(&table, file, position / PAGE_BYTES);
             if k < SLOTS {
                 return Span {
                     cached: true,
@@ -214,11 +223,11 @@ pub fn look_count(
     file: usize,
     position: usize,
 ) -> Answer
-    ensures { λ r. ⌜ coded r ≡ lookCountBytes pagesPerFile file position (lent (mediaOf (now (media .entry)) (now (sizes .entry))) (now (frames .entry)) (now (state .entry))) ⌝ }
+    ensures { λ r. ⌜ coded r ≡ lookCountBytes pagesPerFile file position (borrowedAtEntry media sizes frames state) ⌝ }
 {
-    let mut slots = [0u8; cache_state::TABLE];
-    let admission = admit_at(media, sizes, frames, state, file, position, &mut slots);
-    match admission {
+    let mut table = [0u8; admission::TABLE];
+    let admitted = admit_at(media, sizes, frames, state, file, position, &mut table);
+    match admitted {
         Answer::Refused(refusal) => Answer::Refused(refusal),
         Answer::Done(_) => {
             let logical = state_bytes::logical_at(state, file) as usize;

@@ -13,6 +13,7 @@ ghost use Rattle.device.specs.Device.{deviceOf, downState};
 ghost use Rattle.session_run.specs.Session.{startDevice};
 ghost use Rattle.session_run.specs.Feeding.{feed, lastEnd, replyBytes};
 ghost use Rattle.session_run.specs.Steps.{Stepped};
+ghost use Rattle.device.specs.Moments.{deviceAtEntry, deviceAtExit};
 
 // As many bytes are read at a time.
 const BLOCK_BYTES: usize = 1024;
@@ -34,8 +35,8 @@ fn run_block(
 ) -> Printed
     requires { ⌜ replyBytes * length (now input) ≤ length (now output) ⌝ }
     ensures { λ r. ⌜ Stepped (length (now (output .entry)))
-        (feed pagesPerFile (now (input .entry)) (deviceOf (mediaOf (now (media .entry)) (now (sizes .entry))) (now (frames .entry)) (session .cache)) (session .line))
-        (deviceOf (mediaOf (now (media .exit)) (now (sizes .exit))) (now (frames .exit)) (r .session .cache)) (r .session .line)
+        (feed pagesPerFile (now (input .entry)) (deviceAtEntry media sizes frames (session .cache)) (session .line))
+        (deviceAtExit media sizes frames (r .session .cache)) (r .session .line)
         (now (output .entry)) (now (output .exit)) (r .count) ⌝ }
 {
     let fed = session_run::feed(media, sizes, frames, session, input, output);
@@ -57,8 +58,8 @@ fn run_end(
 ) -> Printed
     requires { ⌜ replyBytes ≤ length (now output) ⌝ }
     ensures { λ r. ⌜ Stepped (length (now (output .entry)))
-        (feed pagesPerFile (lastEnd (session .line)) (deviceOf (mediaOf (now (media .entry)) (now (sizes .entry))) (now (frames .entry)) (session .cache)) (session .line))
-        (deviceOf (mediaOf (now (media .exit)) (now (sizes .exit))) (now (frames .exit)) (r .session .cache)) (r .session .line)
+        (feed pagesPerFile (lastEnd (session .line)) (deviceAtEntry media sizes frames (session .cache)) (session .line))
+        (deviceAtExit media sizes frames (r .session .cache)) (r .session .line)
         (now (output .entry)) (now (output .exit)) (r .count) ⌝ }
 {
     let fed = session_run::finish(media, sizes, frames, session, output);

@@ -67,7 +67,7 @@ parse-kept line =
 -- these are its bytes so far
 record Keeps (line : List ℕ) (p : PartialLine) : Type 0 where
   kept : lineOf p ≡ take keptBytes line
-  count : p .length ≡ min keptBytes (length line)
+  count : p .len ≡ min keptBytes (length line)
   room : length (p .bytes) ≡ keptBytes
   unended : every noEnd line ≡ true
 
@@ -84,18 +84,18 @@ unfolding lineOf pushed
 keeps-pushed p line b k n =
     let o : every noEnd (line ++ (b ∷ [])) ≡ true = every-snoc line b (k .unended) (rw (ne-eqb _ _ n)) in
     let m : length (line ++ (b ∷ [])) ≡ length line + 1 = length-append line (b ∷ []) in
-    split-lt (p .length) keptBytes
+    split-lt (p .len) keptBytes
     (λ h. let short : length line < keptBytes = omega (arith, k .count) in
     let whole : length line ≤ keptBytes = omega arith in
     let more : length (line ++ (b ∷ [])) ≤ keptBytes = omega (arith, m) in
-    let space : p .length < length (p .bytes) = omega (arith, k .room) in
+    let space : p .len < length (p .bytes) = omega (arith, k .room) in
     rw (lt-ltb _ _ h)
     (record {
       kept =
           rw
-          (add-one, take-suc-set (p .bytes) (p .length) b space, k .kept, take-all keptBytes line whole, take-all keptBytes (line ++ (b ∷ [])) more);
+          (add-one, take-suc-set (p .bytes) (p .len) b space, k .kept, take-all keptBytes line whole, take-all keptBytes (line ++ (b ∷ [])) more);
       count = omega (arith, k .count, m);
-      room = length-set (p .bytes) (p .length) b ∙ k .room;
+      room = length-set (p .bytes) (p .len) b ∙ k .room;
       unended = o;
     }))
     (λ h. let long : keptBytes ≤ length line = omega (arith, k .count) in
@@ -129,9 +129,9 @@ module _ (P : ℕ) where
 
   rest-lines : (xs : List ℕ) (d : Device) (p : PartialLine) (line : List ℕ) → Keeps line p → rest xs d p ≡ answers P (lines (line ++ xs)) d
   unfolding rest feedByte
-  rest-lines [] d p [] k = rw (eq-eqb (p .length) 0 (k .count))
+  rest-lines [] d p [] k = rw (eq-eqb (p .len) 0 (k .count))
   rest-lines [] d p (c ∷ cs) k =
-      let n : p .length ≢ 0 = λ q. absurd (omega (arith, k .count, q)) in
+      let n : p .len ≢ 0 = λ q. absurd (omega (arith, k .count, q)) in
       let e : lines ((c ∷ cs) ++ []) ≡ (c ∷ cs) ∷ [] = ap lines (append-nil (c ∷ cs)) ∙ lines-last c cs (k .unended) in
       rw (ne-eqb _ _ n, run-kept p (c ∷ cs) d k) (sym (ap (λ ls. answers P ls d) e))
   rest-lines (b ∷ bs) d p line k =

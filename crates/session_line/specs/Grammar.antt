@@ -91,7 +91,7 @@ greatestRead = 32
 abbrev pub greatestByte : ℕ
 greatestByte = 255
 
--- `F,grant` `M,grant` `W,file,position,length,byte` `T,file,n` `S,file,grant` `R,file,position,length`
+-- `F,budget` `M,budget` `W,file,position,length,byte` `T,file,n` `S,file,budget` `R,file,position,length`
 unfoldable pub forms : List Form
 forms =
     form F (greatestNumber ∷ [])

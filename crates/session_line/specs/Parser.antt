@@ -43,8 +43,8 @@ pub record Values (limits : List ℕ) (ts : List (List ℕ)) (fit : Bool) (value
 abbrev pub Within : Request → Type 0
 Within (Format budget) = Unit {0}
 Within (Mount budget) = Unit {0}
-Within (Write file position length byte) = length ≤ greatestWrite
+Within (Write file position count byte) = count ≤ greatestWrite
 Within (Truncate file n) = Unit {0}
 Within (Sync file budget) = Unit {0}
-Within (Read file position length) = length ≤ greatestRead
+Within (Read file position count) = count ≤ greatestRead
 Within Malformed = Unit {0}

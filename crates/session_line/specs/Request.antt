@@ -7,8 +7,8 @@ use Rattle.session_line.specs.Grammar.{Command, command, malformed, F, M
 abbrev pub spelled : Request → Command
 spelled (Format budget) = command F (budget ∷ [])
 spelled (Mount budget) = command M (budget ∷ [])
-spelled (Write file position length byte) = command W (file ∷ position ∷ length ∷ byte ∷ [])
+spelled (Write file position count byte) = command W (file ∷ position ∷ count ∷ byte ∷ [])
 spelled (Truncate file n) = command T (file ∷ n ∷ [])
 spelled (Sync file budget) = command S (file ∷ budget ∷ [])
-spelled (Read file position length) = command R (file ∷ position ∷ length ∷ [])
+spelled (Read file position count) = command R (file ∷ position ∷ count ∷ [])
 spelled Malformed = malformed

@@ -50,12 +50,6 @@ fn all_digits(text: &[u8]) -> bool
     true
 }
 
-fn wide(c: u8) -> usize
-    ensures { λ r. ⌜ r ≡ c ⌝ }
-{
-    c as usize
-}
-
 // The value of at most five digits.
 fn value(text: &[u8]) -> usize
     requires { ⌜ (length (now text) ≤ 5) × (every isDigit (now text) ≡ true) ⌝ }
@@ -64,7 +58,7 @@ fn value(text: &[u8]) -> usize
     let mut n = 0;
     let mut i = 0;
     while i < text.len() {
-        n = 10 * n + wide(text[i] - b'0');
+        n = 10 * n + number::widen(text[i] - b'0');
         i += 1;
     }
     n

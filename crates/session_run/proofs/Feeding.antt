@@ -143,11 +143,11 @@ text-left bound x d p before after n s h = rw (s .bytes, s .count) (take-overwri
 
 -- ---- the end of the input
 
-pub last-end : (p : PartialLine) (n : ℕ) → n ≡ min (p .length) 1 → take n (LF ∷ []) ≡ lastEnd p
+pub last-end : (p : PartialLine) (n : ℕ) → n ≡ min (p .len) 1 → take n (LF ∷ []) ≡ lastEnd p
 last-end p n e =
-    split-eq (p .length) 0
+    split-eq (p .len) 0
     (λ q. let z : n ≡ 0 = omega (arith, e) in rw (z, eq-eqb _ _ q))
     (λ q. let o : n ≡ 1 = omega (arith, e, q) in rw (o, ne-eqb _ _ q))
 
 pub last-short : (p : PartialLine) → length (lastEnd p) ≤ 1
-last-short p = cases (eqb (p .length) 0) (λ e. rw e (omega arith)) (λ e. rw e (omega arith))
+last-short p = cases (eqb (p .len) 0) (λ e. rw e (omega arith)) (λ e. rw e (omega arith))

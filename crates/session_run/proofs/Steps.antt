@@ -27,17 +27,17 @@ use Rattle.session_line.specs.Grammar.{LF, greatestWrite, greatestRead}
 use Rattle.session_line.specs.Reply.{decimal, replyLine, printAnswer, printed}
 use Rattle.session_line.proofs.Reply.{length-small, decimal-length, decimal-fits, reply-length}
 use Rattle.session_run.specs.declared.PartialLine.{PartialLine}
-use Rattle.session_run.specs.Session.{Ran, silent, shown, text, run, runLine}
+use Rattle.session_run.specs.Session.{Ran, printsNone, shown, text, run, runLine}
 use Rattle.session_run.specs.Feeding.{keptBytes, restarted, lineOf, feedByte, replyBytes, runInto}
-use Rattle.session_run.specs.Steps.{readBuffer, sameBytes, Made, Stepped}
+use Rattle.session_run.specs.Steps.{readBuffer, writeBuffer, Made, Stepped}
 
-pub take-same : (n b : ℕ) → n ≤ greatestWrite → take n (sameBytes b) ≡ replicate n b
-unfolding sameBytes
-take-same n b h = take-replicate n greatestWrite b h
+pub take-write-buffer : (n b : ℕ) → n ≤ greatestWrite → take n (writeBuffer b) ≡ replicate n b
+unfolding writeBuffer
+take-write-buffer n b h = take-replicate n greatestWrite b h
 
-pub length-same : (b : ℕ) → length (sameBytes b) ≡ greatestWrite
-unfolding sameBytes
-length-same b = length-replicate greatestWrite b
+pub length-write-buffer : (b : ℕ) → length (writeBuffer b) ≡ greatestWrite
+unfolding writeBuffer
+length-write-buffer b = length-replicate greatestWrite b
 
 pub take-buffer : (n : ℕ) → n ≤ greatestRead → take n readBuffer ≡ zeros n
 unfolding readBuffer
@@ -54,11 +54,11 @@ within-of r v e h = rw e at h
 
 module _ (request v : Request) (told : request ≡ v) (P : ℕ) (d : Device) (m : Media) (frames : List ℕ) (a : Answer) (reads : Bool) (bytes : List ℕ) (s : CacheState) where
   -- a call that prints no bytes
-  pub made-silent : (x : Result Device) (b : Answer) (t : CacheState) → run P (spelled v) d ≡ silent x → give (coded b) (deviceOf m frames t) ≡ x
+  pub made-prints-none : (x : Result Device) (b : Answer) (t : CacheState) → run P (spelled v) d ≡ printsNone x → give (coded b) (deviceOf m frames t) ≡ x
       → (a ≡ b) × (s ≡ t) × (reads ≡ false) → Made (run P (spelled request) d) (coded a) reads bytes (deviceOf m frames s)
-  made-silent x b t er ex k =
+  made-prints-none x b t er ex k =
       record {
-        ran = rw (told, er, k .0, k .1, k .2) (ap silent ex);
+        ran = rw (told, er, k .0, k .1, k .2) (ap printsNone ex);
         few = λ q. absurd (false≢true (sym (k .2) ∙ q));
       }
 
@@ -105,14 +105,14 @@ run-ends P line output d a bytes after h e f =
 -- ---- one byte of input
 
 -- the line that was kept
-pub kept-line : (p : PartialLine) (n : ℕ) → length (p .bytes) ≡ keptBytes → n ≡ min (p .length) keptBytes → take n (p .bytes) ≡ lineOf p
+pub kept-line : (p : PartialLine) (n : ℕ) → length (p .bytes) ≡ keptBytes → n ≡ min (p .len) keptBytes → take n (p .bytes) ≡ lineOf p
 unfolding lineOf
 kept-line p n h e =
-    split-lt keptBytes (p .length)
+    split-lt keptBytes (p .len)
     (λ k. let a : length (p .bytes) ≤ n = omega (arith, h, e) in
-    let b : length (p .bytes) ≤ p .length = omega (arith, h) in
-    take-all n (p .bytes) a ∙ sym (take-all (p .length) (p .bytes) b))
-    (λ k. let a : n ≡ p .length = omega (arith, e) in ap (λ (j : ℕ). take j (p .bytes)) a)
+    let b : length (p .bytes) ≤ p .len = omega (arith, h) in
+    take-all n (p .bytes) a ∙ sym (take-all (p .len) (p .bytes) b))
+    (λ k. let a : n ≡ p .len = omega (arith, e) in ap (λ (j : ℕ). take j (p .bytes)) a)
 
 -- the line has ended, and was run
 pub stepped-end : (P : ℕ) (d : Device) (p : PartialLine) (line output left : List ℕ) (after : Device) (a : Answer) (n : ℕ)

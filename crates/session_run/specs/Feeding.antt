@@ -20,16 +20,16 @@ abbrev pub keptBytes : ℕ
 keptBytes = greatestLine + 1
 
 abbrev pub noLine : PartialLine
-noLine = record { bytes = zeros keptBytes; length = 0 }
+noLine = record { bytes = zeros keptBytes; len = 0 }
 
 unfoldable pub pushed : ℕ → PartialLine → PartialLine
-pushed b p = cond (ltb (p .length) keptBytes) (record { bytes = set (p .bytes) (p .length) b; length = p .length + 1 }) p
+pushed b p = cond (ltb (p .len) keptBytes) (record { bytes = set (p .bytes) (p .len) b; len = p .len + 1 }) p
 
 unfoldable pub restarted : PartialLine → PartialLine
-restarted p = record { bytes = p .bytes; length = 0 }
+restarted p = record { bytes = p .bytes; len = 0 }
 
 unfoldable pub lineOf : PartialLine → List ℕ
-lineOf p = take (p .length) (p .bytes)
+lineOf p = take (p .len) (p .bytes)
 
 -- ---- bytes of input
 
@@ -62,7 +62,7 @@ module _ (P : ℕ) where
 
 -- at the end of the input: the LF that the last line may lack
 abbrev pub lastEnd : PartialLine → List ℕ
-lastEnd p = cond (eqb (p .length) 0) [] (LF ∷ [])
+lastEnd p = cond (eqb (p .len) 0) [] (LF ∷ [])
 
 -- ---- the calls
 

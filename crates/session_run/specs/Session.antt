@@ -25,8 +25,8 @@ pub record Ran : Type 0 where
   pub device : Device
 
 -- a call that prints no bytes
-abbrev pub silent : Result Device → Ran
-silent r = record { answer = r .answer; bytes = []; device = r .left }
+abbrev pub printsNone : Result Device → Ran
+printsNone r = record { answer = r .answer; bytes = []; device = r .left }
 
 -- a read prints the bytes that it counts
 abbrev pub shown : Device → Result (List ℕ) → Ran
@@ -40,13 +40,13 @@ module _ (P : ℕ) where
   unfoldable pub run : Command → Device → Ran
   run c d =
       let n : ℕ → ℕ = λ k. getD (c .numbers) k 0 in
-      cond (eqb (c .letter) F) (silent (format P (n 0) d))
-      (cond (eqb (c .letter) M) (silent (mount P (n 0) d))
-      (cond (eqb (c .letter) W) (silent (write P (n 0) (n 1) (replicate (n 2) (n 3)) d))
-      (cond (eqb (c .letter) T) (silent (truncate P (n 0) (n 1) d))
-      (cond (eqb (c .letter) S) (silent (sync P (n 0) (n 1) d))
+      cond (eqb (c .letter) F) (printsNone (format P (n 0) d))
+      (cond (eqb (c .letter) M) (printsNone (mount P (n 0) d))
+      (cond (eqb (c .letter) W) (printsNone (write P (n 0) (n 1) (replicate (n 2) (n 3)) d))
+      (cond (eqb (c .letter) T) (printsNone (truncate P (n 0) (n 1) d))
+      (cond (eqb (c .letter) S) (printsNone (sync P (n 0) (n 1) d))
       (cond (eqb (c .letter) R) (shown d (read P (n 0) (n 1) (zeros (n 2)) d))
-      (silent (give LINE d)))))))
+      (printsNone (give LINE d)))))))
 
   unfoldable pub runLine : List ℕ → Device → Ran
   runLine line d = run (parse line) d

@@ -13,8 +13,8 @@ use Rattle.session_run.specs.Session.{Ran}
 use Rattle.session_run.specs.Feeding.{Fed}
 
 -- as many bytes of one value as a line may write
-unfoldable pub sameBytes : ℕ → List ℕ
-sameBytes byte = replicate greatestWrite byte
+unfoldable pub writeBuffer : ℕ → List ℕ
+writeBuffer byte = replicate greatestWrite byte
 
 -- as many zeros as a line may read
 unfoldable pub readBuffer : List ℕ

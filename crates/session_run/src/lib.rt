@@ -14,8 +14,7 @@ ghost use lib.ListN.{length, take, replicate};
 ghost use Rattle.answer.specs.Coded.{coded};
 ghost use Rattle.memory.specs.Bytes.{zeros};
 ghost use Rattle.media.specs.Geometry.{pagesPerFile};
-ghost use Rattle.media.specs.Write.{mediaOf};
-ghost use Rattle.device.specs.Device.{deviceOf, downState};
+ghost use Rattle.device.specs.Device.{downState};
 ghost use Rattle.device.specs.Admission.{give};
 ghost use Rattle.device.specs.Reading.{read};
 ghost use Rattle.device.specs.Writing.{write};
@@ -25,7 +24,8 @@ ghost use Rattle.session_line.specs.Reply.{header};
 ghost use Rattle.session_line.specs.Parser.{Within};
 ghost use Rattle.session_run.specs.Session.{run};
 ghost use Rattle.session_run.specs.Feeding.{replyBytes, noLine, pushed, restarted, lastEnd, feedByte, runInto, stateOf, feedBlock};
-ghost use Rattle.session_run.specs.Steps.{readBuffer, sameBytes, Made, Stepped};
+ghost use Rattle.session_run.specs.Steps.{readBuffer, writeBuffer, Made, Stepped};
+ghost use Rattle.device.specs.Moments.{deviceAtEntry, deviceAtExit};
 
 // The greatest length of a line that is printed.
 pub const REPLY_BYTES: usize = 70;
@@ -36,7 +36,7 @@ pub const KEPT_BYTES: usize = 41;
 // The line that has not ended yet.
 pub struct PartialLine {
     pub bytes: [u8; KEPT_BYTES],
-    pub length: usize,
+    pub len: usize,
 }
 
 // A session between two blocks of its input.
@@ -68,7 +68,7 @@ fn read_buffer() -> [u8; 32]
     [0; 32]
 }
 
-fn silent(outcome: Outcome) -> Call
+fn prints_none(outcome: Outcome) -> Call
     ensures { λ r. ⌜ (r .answer ≡ outcome .answer) × (r .cache ≡ outcome .cache) × (r .reads ≡ false) ⌝ }
 {
     let answer = outcome.answer;
@@ -82,8 +82,8 @@ fn silent(outcome: Outcome) -> Call
 }
 
 // As many bytes of one value as a line may write.
-fn same_bytes(byte: u8) -> [u8; 4096]
-    ensures { λ r. ⌜ r ≡ sameBytes byte ⌝ }
+fn write_buffer(byte: u8) -> [u8; 4096]
+    ensures { λ r. ⌜ r ≡ writeBuffer byte ⌝ }
 {
     [byte; 4096]
 }
@@ -96,23 +96,15 @@ fn write_bytes(
     cache: CacheState,
     file: usize,
     position: usize,
-    length: usize,
+    count: usize,
     byte: u8,
 ) -> Outcome
-    requires { ⌜ length ≤ greatestWrite ⌝ }
-    ensures { λ r. ⌜ give (coded (r .answer)) (deviceOf (mediaOf (now (media .entry)) (now (sizes .entry))) (now (frames .exit)) (r .cache))
-        ≡ write pagesPerFile file position (replicate length byte) (deviceOf (mediaOf (now (media .entry)) (now (sizes .entry))) (now (frames .entry)) cache) ⌝ }
+    requires { ⌜ count ≤ greatestWrite ⌝ }
+    ensures { λ r. ⌜ give (coded (r .answer)) (deviceAtExit media sizes frames (r .cache))
+        ≡ write pagesPerFile file position (replicate count byte) (deviceAtEntry media sizes frames cache) ⌝ }
 {
-    let bytes = same_bytes(byte);
-    cache::write(
-        media,
-        sizes,
-        frames,
-        cache,
-        file,
-        position,
-        &bytes[..length],
-    )
+    let bytes = write_buffer(byte);
+    cache::write(media, sizes, frames, cache, file, position, &bytes[..count])
 }
 
 // A read of at most 32 bytes.
@@ -123,11 +115,11 @@ fn read_bytes(
     cache: CacheState,
     file: usize,
     position: usize,
-    length: usize,
+    count: usize,
 ) -> Call
-    requires { ⌜ length ≤ greatestRead ⌝ }
-    ensures { λ r. ⌜ (give (coded (r .answer)) (take length (r .bytes))
-        ≡ read pagesPerFile file position (zeros length) (deviceOf (mediaOf (now (media .entry)) (now (sizes .entry))) (now (frames .entry)) cache))
+    requires { ⌜ count ≤ greatestRead ⌝ }
+    ensures { λ r. ⌜ (give (coded (r .answer)) (take count (r .bytes))
+        ≡ read pagesPerFile file position (zeros count) (deviceAtEntry media sizes frames cache))
         × (r .cache ≡ cache) × (r .reads ≡ true) ⌝ }
 {
     let mut bytes = read_buffer();
@@ -138,7 +130,7 @@ fn read_bytes(
         cache,
         file,
         position,
-        &mut bytes[..length],
+        &mut bytes[..count],
     );
     let answer = outcome.answer;
     let state = outcome.cache;
@@ -159,24 +151,31 @@ fn execute(
     request: Request,
 ) -> Call
     requires { ⌜ Within request ⌝ }
-    ensures { λ r. ⌜ Made (run pagesPerFile (spelled request) (deviceOf (mediaOf (now (media .entry)) (now (sizes .entry))) (now (frames .entry)) cache))
-        (coded (r .answer)) (r .reads) (r .bytes) (deviceOf (mediaOf (now (media .exit)) (now (sizes .exit))) (now (frames .exit)) (r .cache)) ⌝ }
+    ensures { λ r. ⌜ Made (run pagesPerFile (spelled request) (deviceAtEntry media sizes frames cache))
+        (coded (r .answer)) (r .reads) (r .bytes) (deviceAtExit media sizes frames (r .cache)) ⌝ }
 {
     match request {
-        Request::Format(budget) => silent(cache::format(media, sizes, cache, budget)),
-        Request::Mount(budget) => silent(cache::mount(media, sizes, cache, budget)),
-        Request::Write(file, position, length, byte) => silent(write_bytes(
+        Request::Format(budget) => prints_none(cache::format(media, sizes, cache, budget)),
+        Request::Mount(budget) => prints_none(cache::mount(media, sizes, cache, budget)),
+        Request::Write(file, position, count, byte) => prints_none(write_bytes(
             media,
             sizes,
             frames,
             cache,
             file,
             position,
-            length,
+            count,
             byte,
         )),
-        Request::Truncate(file, n) => silent(cache::truncate(media, sizes, frames, cache, file, n)),
-        Request::Sync(file, budget) => silent(cache::sync(
+        Request::Truncate(file, n) => prints_none(cache::truncate(
+            media,
+            sizes,
+            frames,
+            cache,
+            file,
+            n,
+        )),
+        Request::Sync(file, budget) => prints_none(cache::sync(
             media,
             sizes,
             frames,
@@ -184,10 +183,10 @@ fn execute(
             file,
             budget,
         )),
-        Request::Read(file, position, length) => {
-            read_bytes(media, sizes, frames, cache, file, position, length)
+        Request::Read(file, position, count) => {
+            read_bytes(media, sizes, frames, cache, file, position, count)
         }
-        Request::Malformed => silent(Outcome {
+        Request::Malformed => prints_none(Outcome {
             answer: Answer::Refused(Refusal::Line),
             cache,
         }),
@@ -214,8 +213,8 @@ pub fn run_line(
     line: &[u8],
     output: &mut [u8],
 ) -> Outcome
-    ensures { λ r. ⌜ (give (coded (r .answer)) (deviceOf (mediaOf (now (media .exit)) (now (sizes .exit))) (now (frames .exit)) (r .cache), now (output .exit))
-        ≡ runInto pagesPerFile (now (line .entry)) (deviceOf (mediaOf (now (media .entry)) (now (sizes .entry))) (now (frames .entry)) cache, now (output .entry)))
+    ensures { λ r. ⌜ (give (coded (r .answer)) (deviceAtExit media sizes frames (r .cache), now (output .exit))
+        ≡ runInto pagesPerFile (now (line .entry)) (deviceAtEntry media sizes frames cache, now (output .entry)))
         × ((coded (r .answer)) .count ≤ replyBytes) ⌝ }
 {
     if output.len() == REPLY_BYTES {
@@ -247,7 +246,7 @@ pub fn start() -> Session
         cache: cache::down_state(),
         line: PartialLine {
             bytes: [0; KEPT_BYTES],
-            length: 0,
+            len: 0,
         },
     }
 }
@@ -283,14 +282,11 @@ pub fn header() -> [u8; 19]
 fn push(line: PartialLine, b: u8) -> PartialLine
     ensures { λ r. ⌜ r ≡ pushed b line ⌝ }
 {
-    let n = line.length;
+    let n = line.len;
     if n < KEPT_BYTES {
         let mut bytes = line.bytes;
         bytes[n] = b;
-        return PartialLine {
-            bytes,
-            length: n + 1,
-        };
+        return PartialLine { bytes, len: n + 1 };
     }
     line
 }
@@ -310,12 +306,12 @@ fn end_line(
     output: &mut [u8],
 ) -> Step
     requires { ⌜ length (now output) ≡ replyBytes ⌝ }
-    ensures { λ r. ⌜ Stepped replyBytes (feedByte pagesPerFile LF (deviceOf (mediaOf (now (media .entry)) (now (sizes .entry))) (now (frames .entry)) cache) line)
-        (deviceOf (mediaOf (now (media .exit)) (now (sizes .exit))) (now (frames .exit)) (r .cache)) (restarted line)
+    ensures { λ r. ⌜ Stepped replyBytes (feedByte pagesPerFile LF (deviceAtEntry media sizes frames cache) line)
+        (deviceAtExit media sizes frames (r .cache)) (restarted line)
         (now (output .entry)) (now (output .exit)) (r .count) ⌝ }
 {
     let bytes = line.bytes;
-    let n = number::min(line.length, KEPT_BYTES);
+    let n = number::min(line.len, KEPT_BYTES);
     let ran = run_line(media, sizes, frames, cache, &bytes[..n], output);
     let state = ran.cache;
     let answer = ran.answer;
@@ -335,8 +331,10 @@ pub fn feed(
     input: &[u8],
     output: &mut [u8],
 ) -> SessionOutcome
-    ensures { λ r. ⌜ (give (coded (r .answer)) (stateOf (deviceOf (mediaOf (now (media .exit)) (now (sizes .exit))) (now (frames .exit)) (r .session .cache)) (r .session .line) (now (output .exit)))
-        ≡ feedBlock pagesPerFile (now (input .entry)) (stateOf (deviceOf (mediaOf (now (media .entry)) (now (sizes .entry))) (now (frames .entry)) (session .cache)) (session .line) (now (output .entry))))
+    ensures { λ r. ⌜ (give (coded (r .answer)) (stateOf (deviceAtExit media sizes frames (r .session .cache))
+        (r .session .line) (now (output .exit)))
+        ≡ feedBlock pagesPerFile (now (input .entry)) (stateOf (deviceAtEntry media sizes frames (session .cache))
+        (session .line) (now (output .entry))))
         × ((coded (r .answer)) .count ≤ length (now (output .entry))) ⌝ }
 {
     if output.len() / REPLY_BYTES < input.len() {
@@ -356,7 +354,7 @@ pub fn feed(
             let step = end_line(media, sizes, frames, cache, line, &mut output[put..end]);
             let next = step.cache;
             cache = next;
-            line.length = 0;
+            line.len = 0;
             put += step.count;
             i += 1;
         } else {
@@ -378,12 +376,14 @@ pub fn finish(
     session: Session,
     output: &mut [u8],
 ) -> SessionOutcome
-    ensures { λ r. ⌜ (give (coded (r .answer)) (stateOf (deviceOf (mediaOf (now (media .exit)) (now (sizes .exit))) (now (frames .exit)) (r .session .cache)) (r .session .line) (now (output .exit)))
-        ≡ feedBlock pagesPerFile (lastEnd (session .line)) (stateOf (deviceOf (mediaOf (now (media .entry)) (now (sizes .entry))) (now (frames .entry)) (session .cache)) (session .line) (now (output .entry))))
+    ensures { λ r. ⌜ (give (coded (r .answer)) (stateOf (deviceAtExit media sizes frames (r .session .cache))
+        (r .session .line) (now (output .exit)))
+        ≡ feedBlock pagesPerFile (lastEnd (session .line)) (stateOf (deviceAtEntry media sizes frames (session .cache))
+        (session .line) (now (output .entry))))
         × ((coded (r .answer)) .count ≤ length (now (output .entry))) ⌝ }
 {
     let ends = [b'\n'];
     let line = session.line;
-    let n = number::min(line.length, 1);
+    let n = number::min(line.len, 1);
     feed(media, sizes, frames, session, &ends[..n], output)
 }

@@ -14,7 +14,7 @@ use borrow.Author.Tests.{eq-eqb}
 use Rattle.media.specs.Geometry.{files}
 use Rattle.device.specs.declared.CacheState.{CacheState}
 use Rattle.device.specs.Device.{slotCount}
-use Rattle.state_bytes.specs.Encoding.{stateBytes, slotsAt, logicalAt, floorAt, slotBytes, numberBytes, joined, each, encode, encoded}
+use Rattle.state_bytes.specs.Encoding.{stateBytes, slotsStart, logicalStart, floorStart, slotBytes, numberBytes, concatMap, each, encode, encoded}
 
 -- ---- bytes one after the other
 
@@ -36,49 +36,49 @@ laid-whole xs m us vs ws e a b c =
 
 -- ---- the bytes of each element, one after the other
 
-joined-next : {A : Type 0} (g : A → List ℕ) (xs : List A) (i : ℕ) (d : A) → i < length xs → joined g (take (suc i) xs) ≡ joined g (take i xs) ++ g (getD xs i d)
-joined-next g [] i d h = absurd (not-suc-le-zero h)
-joined-next g (x ∷ xs) zero d h = append-nil (g x)
-joined-next g (x ∷ xs) (suc i) d h =
-    ap (λ (l : List ℕ). g x ++ l) (joined-next g xs i d (le-of-suc-le-suc h)) ∙ sym (append-assoc (g x) (joined g (take i xs)) (g (getD xs i d)))
+concatMap-next : {A : Type 0} (g : A → List ℕ) (xs : List A) (i : ℕ) (d : A) → i < length xs → concatMap g (take (suc i) xs) ≡ concatMap g (take i xs) ++ g (getD xs i d)
+concatMap-next g [] i d h = absurd (not-suc-le-zero h)
+concatMap-next g (x ∷ xs) zero d h = append-nil (g x)
+concatMap-next g (x ∷ xs) (suc i) d h =
+    ap (λ (l : List ℕ). g x ++ l) (concatMap-next g xs i d (le-of-suc-le-suc h)) ∙ sym (append-assoc (g x) (concatMap g (take i xs)) (g (getD xs i d)))
 
-joined-append : {A : Type 0} (g : A → List ℕ) (xs ys : List A) → joined g (xs ++ ys) ≡ joined g xs ++ joined g ys
-joined-append g [] ys = refl
-joined-append g (x ∷ xs) ys = ap (λ (l : List ℕ). g x ++ l) (joined-append g xs ys) ∙ sym (append-assoc (g x) (joined g xs) (joined g ys))
+concatMap-append : {A : Type 0} (g : A → List ℕ) (xs ys : List A) → concatMap g (xs ++ ys) ≡ concatMap g xs ++ concatMap g ys
+concatMap-append g [] ys = refl
+concatMap-append g (x ∷ xs) ys = ap (λ (l : List ℕ). g x ++ l) (concatMap-append g xs ys) ∙ sym (append-assoc (g x) (concatMap g xs) (concatMap g ys))
 
 -- elements of c bytes each
 module _ {A : Type 0} (c : ℕ) (g : A → List ℕ) (wide : (x : A) → length (g x) ≡ c) where
-  pub length-joined : (xs : List A) → length (joined g xs) ≡ c * length xs
-  length-joined [] = sym (mul-zero c)
-  length-joined (x ∷ xs) = length-append (g x) (joined g xs) ∙ rw (wide x, length-joined xs, mul-suc) (add-comm c (c * length xs))
+  pub length-concatMap : (xs : List A) → length (concatMap g xs) ≡ c * length xs
+  length-concatMap [] = sym (mul-zero c)
+  length-concatMap (x ∷ xs) = length-append (g x) (concatMap g xs) ∙ rw (wide x, length-concatMap xs, mul-suc) (add-comm c (c * length xs))
 
-  length-taken : (xs : List A) (k : ℕ) → k ≤ length xs → length (joined g (take k xs)) ≡ c * k
+  length-taken : (xs : List A) (k : ℕ) → k ≤ length xs → length (concatMap g (take k xs)) ≡ c * k
   length-taken xs zero h = sym (mul-zero c)
   length-taken [] (suc k) h = absurd (not-suc-le-zero h)
   length-taken (x ∷ xs) (suc k) h =
-      length-append (g x) (joined g (take k xs)) ∙ rw (wide x, length-taken xs k (le-of-suc-le-suc h), mul-suc) (add-comm c (c * k))
+      length-append (g x) (concatMap g (take k xs)) ∙ rw (wide x, length-taken xs k (le-of-suc-le-suc h), mul-suc) (add-comm c (c * k))
 
   -- one more element is laid behind those before it
   pub put-next : (s : List ℕ) (a : ℕ) (xs : List A) (k : ℕ) (d : A) → k < length xs
-      → overwrite (overwrite s a (joined g (take k xs))) (a + c * k) (g (getD xs k d)) ≡ overwrite s a (joined g (take (k + 1) xs))
+      → overwrite (overwrite s a (concatMap g (take k xs))) (a + c * k) (g (getD xs k d)) ≡ overwrite s a (concatMap g (take (k + 1) xs))
   put-next s a xs k d h =
-      rw (add-one, joined-next g xs k d h, overwrite-join-at s a (joined g (take k xs)) (g (getD xs k d)), length-taken xs k (omega arith))
+      rw (add-one, concatMap-next g xs k d h, overwrite-join-at s a (concatMap g (take k xs)) (g (getD xs k d)), length-taken xs k (omega arith))
 
   -- byte j of element k
-  pub joined-at : (xs : List A) (ys : List ℕ) (k j : ℕ) (d : A) → k < length xs → j < c → getD (joined g xs ++ ys) (c * k + j) 0 ≡ getD (g (getD xs k d)) j 0
+  pub joined-at : (xs : List A) (ys : List ℕ) (k j : ℕ) (d : A) → k < length xs → j < c → getD (concatMap g xs ++ ys) (c * k + j) 0 ≡ getD (g (getD xs k d)) j 0
   joined-at [] ys k j d h l = absurd (not-suc-le-zero h)
   joined-at (x ∷ xs) ys zero j d h l =
-      rw (append-assoc (g x) (joined g xs) ys, mul-zero, zero-add) (List·getD-append (g x) (joined g xs ++ ys) 0 j (rw (wide x) l))
+      rw (append-assoc (g x) (concatMap g xs) ys, mul-zero, zero-add) (List·getD-append (g x) (concatMap g xs ++ ys) 0 j (rw (wide x) l))
   joined-at (x ∷ xs) ys (suc k) j d h l =
-      rw (append-assoc (g x) (joined g xs) ys, mul-suc)
-      (ap (λ (n : ℕ). getD (g x ++ (joined g xs ++ ys)) n 0) (shift x k) ∙ getD-append-add (g x) (joined g xs ++ ys) (c * k + j) 0 ∙ joined-at xs ys k j d (le-of-suc-le-suc h) l)
+      rw (append-assoc (g x) (concatMap g xs) ys, mul-suc)
+      (ap (λ (n : ℕ). getD (g x ++ (concatMap g xs ++ ys)) n 0) (shift x k) ∙ getD-append-add (g x) (concatMap g xs ++ ys) (c * k + j) 0 ∙ joined-at xs ys k j d (le-of-suc-le-suc h) l)
     where
       shift : (x : A) (k : ℕ) → c * k + c + j ≡ length (g x) + (c * k + j)
       shift x k = rw (wide x) (omega arith)
 
   -- what stands behind all of them
-  pub joined-past : (xs : List A) (ys : List ℕ) (n : ℕ) → getD (joined g xs ++ ys) (c * length xs + n) 0 ≡ getD ys n 0
-  joined-past xs ys n = rw (← length-joined xs) (getD-append-add (joined g xs) ys n 0)
+  pub joined-past : (xs : List A) (ys : List ℕ) (n : ℕ) → getD (concatMap g xs ++ ys) (c * length xs + n) 0 ≡ getD ys n 0
+  joined-past xs ys n = rw (← length-concatMap xs) (getD-append-add (concatMap g xs) ys n 0)
 
 -- ---- what is given for each number
 
@@ -113,10 +113,10 @@ module _ {A : Type 0} where
 
 -- the bytes that stood where each element was read
 pub joined-each : {A : Type 0} (c : ℕ) (g : A → List ℕ) (f : ℕ → A) (bytes : List ℕ) (a n : ℕ)
-    → ((k : ℕ) → k < n → g (f k) ≡ part bytes (a + c * k) c) → joined g (each n f) ≡ part bytes a (c * n)
+    → ((k : ℕ) → k < n → g (f k) ≡ part bytes (a + c * k) c) → concatMap g (each n f) ≡ part bytes a (c * n)
 joined-each c g f bytes a zero h = rw (mul-zero c)
 joined-each c g f bytes a (suc n) h =
-    joined-append g (each n f) (f n ∷ [])
+    concatMap-append g (each n f) (f n ∷ [])
     ∙ rw (append-nil, joined-each c g f bytes a n (λ k l. h k (omega arith)), h n (omega arith), mul-suc, take-add, drop-drop)
 
 -- ---- the whole state
@@ -127,14 +127,14 @@ length-marked xs m e = length-set xs 0 m ∙ e
 -- written in four steps
 pub laid : (s : CacheState) (xs x y z : List ℕ) → length xs ≡ stateBytes
     → length (s .slots) ≡ slotCount → length (s .logical) ≡ files → length (s .floor) ≡ files
-    → x ≡ overwrite (set xs 0 (s .mounted)) slotsAt (joined slotBytes (s .slots))
-    → y ≡ overwrite x logicalAt (joined numberBytes (s .logical))
-    → z ≡ overwrite y floorAt (joined numberBytes (s .floor))
+    → x ≡ overwrite (set xs 0 (s .mounted)) slotsStart (concatMap slotBytes (s .slots))
+    → y ≡ overwrite x logicalStart (concatMap numberBytes (s .logical))
+    → z ≡ overwrite y floorStart (concatMap numberBytes (s .floor))
     → z ≡ encoded s xs
 unfolding encoded encode
 laid s xs x y z e p q r a b c =
     rw (c, b, a, eq-eqb (length xs) stateBytes e)
     (laid-whole xs (s .mounted) _ _ _ e
-    (length-joined 3 slotBytes (λ t. refl) (s .slots) ∙ rw p)
-    (length-joined 4 numberBytes (λ n. refl) (s .logical) ∙ rw q)
-    (length-joined 4 numberBytes (λ n. refl) (s .floor) ∙ rw r))
+    (length-concatMap 3 slotBytes (λ t. refl) (s .slots) ∙ rw p)
+    (length-concatMap 4 numberBytes (λ n. refl) (s .logical) ∙ rw q)
+    (length-concatMap 4 numberBytes (λ n. refl) (s .floor) ∙ rw r))

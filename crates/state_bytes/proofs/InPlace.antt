@@ -17,9 +17,9 @@ use Rattle.device.specs.declared.Slot.{Slot}
 use Rattle.device.specs.declared.CacheState.{CacheState}
 use Rattle.device.specs.Device.{slotCount, freeSlot, downState, withSlots, withLogical, withFloor}
 use Rattle.device.specs.Sound.{hasLengths}
-use Rattle.state_bytes.specs.Encoding.{stateBytes, slotsAt, logicalAt, floorAt, slotBytes, numberBytes, joined, slotIn, numberIn, slotsIn, sizesIn, encode, decode, elementSet, slotSet, sizeSet}
+use Rattle.state_bytes.specs.Encoding.{stateBytes, slotsStart, logicalStart, floorStart, slotBytes, numberBytes, concatMap, slotIn, numberIn, slotsIn, sizesIn, encode, decode, elementSet, slotSet, sizeSet}
 use Rattle.state_bytes.specs.Inverse.{Shaped, areBytes}
-use Rattle.state_bytes.proofs.Encoding.{length-joined, length-each, getD-each}
+use Rattle.state_bytes.proofs.Encoding.{length-concatMap, length-each, getD-each}
 use Rattle.state_bytes.proofs.Inverse.{inverse, length-encode}
 
 -- ---- read
@@ -41,9 +41,9 @@ module _ (bytes : List ℕ) where
   shaped =
       split-eq (length bytes) stateBytes
       (λ e. rw (eq-eqb (length bytes) stateBytes e) (record {
-        slots = length-each slotCount (λ k. slotIn bytes (slotsAt + 3 * k));
-        logical = length-each files (λ f. numberIn bytes (logicalAt + 4 * f));
-        floor = length-each files (λ f. numberIn bytes (floorAt + 4 * f));
+        slots = length-each slotCount (λ k. slotIn bytes (slotsStart + 3 * k));
+        logical = length-each files (λ f. numberIn bytes (logicalStart + 4 * f));
+        floor = length-each files (λ f. numberIn bytes (floorStart + 4 * f));
       }))
       (λ n. rw (ne-eqb (length bytes) stateBytes n)
       (record { slots = length-replicate slotCount freeSlot; logical = length-replicate {A = ℕ} files 0; floor = length-replicate {A = ℕ} files 0 }))
@@ -61,17 +61,17 @@ module _ (bytes : List ℕ) where
     unfolding decode
     slots-read = rw (eq-eqb (length bytes) stateBytes e)
 
-    pub slot-read : (k : ℕ) → k < slotCount → getD (decode bytes .slots) k freeSlot ≡ slotIn bytes (slotsAt + 3 * k)
+    pub slot-read : (k : ℕ) → k < slotCount → getD (decode bytes .slots) k freeSlot ≡ slotIn bytes (slotsStart + 3 * k)
     unfolding slotsIn
-    slot-read k h = rw slots-read (getD-each slotCount (λ n. slotIn bytes (slotsAt + 3 * n)) k freeSlot h)
+    slot-read k h = rw slots-read (getD-each slotCount (λ n. slotIn bytes (slotsStart + 3 * n)) k freeSlot h)
 
-    pub logical-read : (f : ℕ) → f < files → getD (decode bytes .logical) f 0 ≡ numberIn bytes (logicalAt + 4 * f)
+    pub logical-read : (f : ℕ) → f < files → getD (decode bytes .logical) f 0 ≡ numberIn bytes (logicalStart + 4 * f)
     unfolding decode sizesIn
-    logical-read f h = rw (eq-eqb (length bytes) stateBytes e) (getD-each files (λ n. numberIn bytes (logicalAt + 4 * n)) f 0 h)
+    logical-read f h = rw (eq-eqb (length bytes) stateBytes e) (getD-each files (λ n. numberIn bytes (logicalStart + 4 * n)) f 0 h)
 
-    pub floor-read : (f : ℕ) → f < files → getD (decode bytes .floor) f 0 ≡ numberIn bytes (floorAt + 4 * f)
+    pub floor-read : (f : ℕ) → f < files → getD (decode bytes .floor) f 0 ≡ numberIn bytes (floorStart + 4 * f)
     unfolding decode sizesIn
-    floor-read f h = rw (eq-eqb (length bytes) stateBytes e) (getD-each files (λ n. numberIn bytes (floorAt + 4 * n)) f 0 h)
+    floor-read f h = rw (eq-eqb (length bytes) stateBytes e) (getD-each files (λ n. numberIn bytes (floorStart + 4 * n)) f 0 h)
 
   -- past the last
   pub slot-past : (k : ℕ) → slotCount ≤ k → getD (decode bytes .slots) k freeSlot ≡ freeSlot
@@ -108,59 +108,59 @@ overwrite-front (u ∷ us) vs (w ∷ ws) e = ap (λ (l : List ℕ). w ∷ l) (ov
 
 -- elements of c bytes each: one of them becomes another
 module _ {A : Type 0} (c : ℕ) (g : A → List ℕ) (wide : (x : A) → length (g x) ≡ c) where
-  joined-set : (xs : List A) (k : ℕ) (x : A) → k < length xs → overwrite (joined g xs) (c * k) (g x) ≡ joined g (set xs k x)
-  joined-set [] k x h = absurd (not-suc-le-zero h)
-  joined-set (y ∷ ys) zero x h = rw mul-zero (overwrite-front (g y) (joined g ys) (g x) (wide x ∙ sym (wide y)))
-  joined-set (y ∷ ys) (suc k) x h =
+  concatMap-set : (xs : List A) (k : ℕ) (x : A) → k < length xs → overwrite (concatMap g xs) (c * k) (g x) ≡ concatMap g (set xs k x)
+  concatMap-set [] k x h = absurd (not-suc-le-zero h)
+  concatMap-set (y ∷ ys) zero x h = rw mul-zero (overwrite-front (g y) (concatMap g ys) (g x) (wide x ∙ sym (wide y)))
+  concatMap-set (y ∷ ys) (suc k) x h =
       let e : c * suc k ≡ length (g y) + c * k = rw (mul-suc, wide y) (omega arith) in
-      rw e (overwrite-right (g y) (joined g ys) (c * k) (g x) ∙ ap (λ (l : List ℕ). g y ++ l) (joined-set ys k x (le-of-suc-le-suc h)))
+      rw e (overwrite-right (g y) (concatMap g ys) (c * k) (g x) ∙ ap (λ (l : List ℕ). g y ++ l) (concatMap-set ys k x (le-of-suc-le-suc h)))
 
   -- in its place among the bytes of a state, between us and vs
-  element-set : (us vs bytes : List ℕ) (xs : List A) (a n k : ℕ) (x : A) → bytes ≡ us ++ (joined g xs ++ vs) → length us ≡ a → length xs ≡ n
-      → length bytes ≡ stateBytes → elementSet g a c n bytes k x ≡ us ++ (joined g (set xs k x) ++ vs)
+  element-set : (us vs bytes : List ℕ) (xs : List A) (a n k : ℕ) (x : A) → bytes ≡ us ++ (concatMap g xs ++ vs) → length us ≡ a → length xs ≡ n
+      → length bytes ≡ stateBytes → elementSet g a c n bytes k x ≡ us ++ (concatMap g (set xs k x) ++ vs)
   unfolding elementSet
   element-set us vs bytes xs a n k x e ea en el =
       split-lt k n
       (λ l. rw (eq-eqb (length bytes) stateBytes el, lt-ltb k n l, e, ← ea)
-      (overwrite-right us (joined g xs ++ vs) (c * k) (g x)
+      (overwrite-right us (concatMap g xs ++ vs) (c * k) (g x)
       ∙ ap (λ (r : List ℕ). us ++ r)
-      (overwrite-left (joined g xs) vs (c * k) (g x) (fits l)
-      ∙ ap (λ (r : List ℕ). r ++ vs) (joined-set xs k x (rw en l)))))
+      (overwrite-left (concatMap g xs) vs (c * k) (g x) (fits l)
+      ∙ ap (λ (r : List ℕ). r ++ vs) (concatMap-set xs k x (rw en l)))))
       (λ l. rw (eq-eqb (length bytes) stateBytes el, le-ltb k n l, set-out xs k x (rw en l)) e)
     where
-      fits : k < n → c * k + length (g x) ≤ length (joined g xs)
-      fits l = rw (length-joined c g wide xs, wide x, en, ← mul-suc) (mul-le-mul-left c l)
+      fits : k < n → c * k + length (g x) ≤ length (concatMap g xs)
+      fits l = rw (length-concatMap c g wide xs, wide x, en, ← mul-suc) (mul-le-mul-left c l)
 
 module _ (s : CacheState) (h : Shaped s) where
   abbrev slotRun : List ℕ
-  slotRun = joined slotBytes (s .slots)
+  slotRun = concatMap slotBytes (s .slots)
 
   abbrev logicalRun : List ℕ
-  logicalRun = joined numberBytes (s .logical)
+  logicalRun = concatMap numberBytes (s .logical)
 
   abbrev floorRun : List ℕ
-  floorRun = joined numberBytes (s .floor)
+  floorRun = concatMap numberBytes (s .floor)
 
   slot-run : length slotRun ≡ 72
-  slot-run = length-joined 3 slotBytes (λ t. refl) (s .slots) ∙ rw (h .slots)
+  slot-run = length-concatMap 3 slotBytes (λ t. refl) (s .slots) ∙ rw (h .slots)
 
   logical-run : length logicalRun ≡ 32
-  logical-run = length-joined 4 numberBytes (λ t. refl) (s .logical) ∙ rw (h .logical)
+  logical-run = length-concatMap 4 numberBytes (λ t. refl) (s .logical) ∙ rw (h .logical)
 
   pub slot-set : (k : ℕ) (x : Slot) → slotSet (encode s) k x ≡ encode (withSlots s (set (s .slots) k x))
   unfolding encode
   slot-set k x =
-      element-set 3 slotBytes (λ t. refl) (s .mounted ∷ []) (logicalRun ++ floorRun) (encode s) (s .slots) slotsAt slotCount k x refl refl (h .slots) (length-encode s h)
+      element-set 3 slotBytes (λ t. refl) (s .mounted ∷ []) (logicalRun ++ floorRun) (encode s) (s .slots) slotsStart slotCount k x refl refl (h .slots) (length-encode s h)
 
-  pub logical-set : (f n : ℕ) → sizeSet logicalAt (encode s) f n ≡ encode (withLogical s f n)
+  pub logical-set : (f n : ℕ) → sizeSet logicalStart (encode s) f n ≡ encode (withLogical s f n)
   unfolding encode
   logical-set f n =
-      element-set 4 numberBytes (λ t. refl) (s .mounted ∷ slotRun) floorRun (encode s) (s .logical) logicalAt files f n refl (ap suc slot-run) (h .logical) (length-encode s h)
+      element-set 4 numberBytes (λ t. refl) (s .mounted ∷ slotRun) floorRun (encode s) (s .logical) logicalStart files f n refl (ap suc slot-run) (h .logical) (length-encode s h)
 
-  pub floor-set : (f n : ℕ) → sizeSet floorAt (encode s) f n ≡ encode (withFloor s f n)
+  pub floor-set : (f n : ℕ) → sizeSet floorStart (encode s) f n ≡ encode (withFloor s f n)
   unfolding encode
   floor-set f n =
-      element-set 4 numberBytes (λ t. refl) (s .mounted ∷ (slotRun ++ logicalRun)) [] (encode s) (s .floor) floorAt files f n
+      element-set 4 numberBytes (λ t. refl) (s .mounted ∷ (slotRun ++ logicalRun)) [] (encode s) (s .floor) floorStart files f n
       (rw (append-assoc slotRun logicalRun, append-nil)) (ap suc (rw (length-append, slot-run, logical-run))) (h .floor) (length-encode s h)
       ∙ rw (append-assoc slotRun logicalRun, append-nil)
 
@@ -180,16 +180,16 @@ module _ (bytes : List ℕ) (e : length bytes ≡ stateBytes) (small : areBytes 
       (record { slots = length-set (decode bytes .slots) k x ∙ h .slots; logical = h .logical; floor = h .floor })
       (slot-set (decode bytes) h k x)
 
-  pub logical-changed : (f n : ℕ) (after : List ℕ) → after ≡ sizeSet logicalAt bytes f n → decode after ≡ withLogical (decode bytes) f n
+  pub logical-changed : (f n : ℕ) (after : List ℕ) → after ≡ sizeSet logicalStart bytes f n → decode after ≡ withLogical (decode bytes) f n
   logical-changed f n =
       let h : Shaped (decode bytes) = shaped bytes in
-      changed (λ b. sizeSet logicalAt b f n) (withLogical (decode bytes) f n)
+      changed (λ b. sizeSet logicalStart b f n) (withLogical (decode bytes) f n)
       (record { slots = h .slots; logical = length-set (decode bytes .logical) f n ∙ h .logical; floor = h .floor })
       (logical-set (decode bytes) h f n)
 
-  pub floor-changed : (f n : ℕ) (after : List ℕ) → after ≡ sizeSet floorAt bytes f n → decode after ≡ withFloor (decode bytes) f n
+  pub floor-changed : (f n : ℕ) (after : List ℕ) → after ≡ sizeSet floorStart bytes f n → decode after ≡ withFloor (decode bytes) f n
   floor-changed f n =
       let h : Shaped (decode bytes) = shaped bytes in
-      changed (λ b. sizeSet floorAt b f n) (withFloor (decode bytes) f n)
+      changed (λ b. sizeSet floorStart b f n) (withFloor (decode bytes) f n)
       (record { slots = h .slots; logical = h .logical; floor = length-set (decode bytes .floor) f n ∙ h .floor })
       (floor-set (decode bytes) h f n)

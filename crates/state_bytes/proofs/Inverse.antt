@@ -17,9 +17,9 @@ use Rattle.scan.proofs.Scan.{every-at, every-all}
 use Rattle.media.specs.Geometry.{files}
 use Rattle.device.specs.declared.CacheState.{CacheState}
 use Rattle.device.specs.Device.{slotCount, freeSlot}
-use Rattle.state_bytes.specs.Encoding.{stateBytes, slotsAt, logicalAt, floorAt, slotBytes, numberBytes, joined, slotIn, numberIn, slotsIn, sizesIn, encode, decode}
+use Rattle.state_bytes.specs.Encoding.{stateBytes, slotsStart, logicalStart, floorStart, slotBytes, numberBytes, concatMap, slotIn, numberIn, slotsIn, sizesIn, encode, decode}
 use Rattle.state_bytes.specs.Inverse.{Shaped, areBytes, Inverse}
-use Rattle.state_bytes.proofs.Encoding.{length-joined, joined-at, joined-past, each-is, joined-each}
+use Rattle.state_bytes.proofs.Encoding.{length-concatMap, joined-at, joined-past, each-is, joined-each}
 
 -- ---- a state, written and read
 
@@ -34,49 +34,49 @@ number-back n = omega arith
 module _ (s : CacheState) (h : Shaped s) where
   -- the sizes, behind the slots
   abbrev tail : List ℕ
-  tail = joined numberBytes (s .logical) ++ joined numberBytes (s .floor)
+  tail = concatMap numberBytes (s .logical) ++ concatMap numberBytes (s .floor)
 
   pub length-encode : length (encode s) ≡ stateBytes
   unfolding encode
   length-encode =
-      let a : length (joined slotBytes (s .slots)) ≡ 72 = length-joined 3 slotBytes (λ t. refl) (s .slots) ∙ rw (h .slots) in
-      let b : length (joined numberBytes (s .logical)) ≡ 32 = length-joined 4 numberBytes (λ n. refl) (s .logical) ∙ rw (h .logical) in
-      let c : length (joined numberBytes (s .floor)) ≡ 32 = length-joined 4 numberBytes (λ n. refl) (s .floor) ∙ rw (h .floor) in
+      let a : length (concatMap slotBytes (s .slots)) ≡ 72 = length-concatMap 3 slotBytes (λ t. refl) (s .slots) ∙ rw (h .slots) in
+      let b : length (concatMap numberBytes (s .logical)) ≡ 32 = length-concatMap 4 numberBytes (λ n. refl) (s .logical) ∙ rw (h .logical) in
+      let c : length (concatMap numberBytes (s .floor)) ≡ 32 = length-concatMap 4 numberBytes (λ n. refl) (s .floor) ∙ rw (h .floor) in
       rw (length-append, length-append, a, b, c)
 
-  slot-byte : (k j : ℕ) → k < slotCount → j < 3 → getD (encode s) (slotsAt + (3 * k + j)) 0 ≡ getD (slotBytes (getD (s .slots) k freeSlot)) j 0
+  slot-byte : (k j : ℕ) → k < slotCount → j < 3 → getD (encode s) (slotsStart + (3 * k + j)) 0 ≡ getD (slotBytes (getD (s .slots) k freeSlot)) j 0
   unfolding encode
   slot-byte k j l m =
-      after-mark (s .mounted) (joined slotBytes (s .slots) ++ tail) (3 * k + j)
+      after-mark (s .mounted) (concatMap slotBytes (s .slots) ++ tail) (3 * k + j)
       ∙ joined-at 3 slotBytes (λ t. refl) (s .slots) tail k j freeSlot (rw (h .slots) l) m
 
-  logical-byte : (f j : ℕ) → f < files → j < 4 → getD (encode s) (logicalAt + (4 * f + j)) 0 ≡ getD (numberBytes (getD (s .logical) f 0)) j 0
+  logical-byte : (f j : ℕ) → f < files → j < 4 → getD (encode s) (logicalStart + (4 * f + j)) 0 ≡ getD (numberBytes (getD (s .logical) f 0)) j 0
   unfolding encode
   logical-byte f j l m =
-      let e : logicalAt + (4 * f + j) ≡ 1 + (3 * length (s .slots) + (4 * f + j)) = rw (h .slots) (omega arith) in
+      let e : logicalStart + (4 * f + j) ≡ 1 + (3 * length (s .slots) + (4 * f + j)) = rw (h .slots) (omega arith) in
       rw e
-      (after-mark (s .mounted) (joined slotBytes (s .slots) ++ tail) (3 * length (s .slots) + (4 * f + j))
+      (after-mark (s .mounted) (concatMap slotBytes (s .slots) ++ tail) (3 * length (s .slots) + (4 * f + j))
       ∙ joined-past 3 slotBytes (λ t. refl) (s .slots) tail (4 * f + j)
-      ∙ joined-at 4 numberBytes (λ n. refl) (s .logical) (joined numberBytes (s .floor)) f j 0 (rw (h .logical) l) m)
+      ∙ joined-at 4 numberBytes (λ n. refl) (s .logical) (concatMap numberBytes (s .floor)) f j 0 (rw (h .logical) l) m)
 
-  floor-byte : (f j : ℕ) → f < files → j < 4 → getD (encode s) (floorAt + (4 * f + j)) 0 ≡ getD (numberBytes (getD (s .floor) f 0)) j 0
+  floor-byte : (f j : ℕ) → f < files → j < 4 → getD (encode s) (floorStart + (4 * f + j)) 0 ≡ getD (numberBytes (getD (s .floor) f 0)) j 0
   unfolding encode
   floor-byte f j l m =
       let n : ℕ = 4 * f + j in
-      let e : floorAt + n ≡ 1 + (3 * length (s .slots) + (4 * length (s .logical) + n)) = rw (h .slots, h .logical) (omega arith) in
+      let e : floorStart + n ≡ 1 + (3 * length (s .slots) + (4 * length (s .logical) + n)) = rw (h .slots, h .logical) (omega arith) in
       rw e
-      (after-mark (s .mounted) (joined slotBytes (s .slots) ++ tail) (3 * length (s .slots) + (4 * length (s .logical) + n))
+      (after-mark (s .mounted) (concatMap slotBytes (s .slots) ++ tail) (3 * length (s .slots) + (4 * length (s .logical) + n))
       ∙ joined-past 3 slotBytes (λ t. refl) (s .slots) tail (4 * length (s .logical) + n)
-      ∙ joined-past 4 numberBytes (λ t. refl) (s .logical) (joined numberBytes (s .floor)) n
+      ∙ joined-past 4 numberBytes (λ t. refl) (s .logical) (concatMap numberBytes (s .floor)) n
       ∙ (rw append-nil at (joined-at 4 numberBytes (λ t. refl) (s .floor) [] f j 0 (rw (h .floor) l) m)))
 
   slots-back : slotsIn (encode s) ≡ s .slots
   unfolding slotsIn
   slots-back =
-      each-is slotCount (λ k. slotIn (encode s) (slotsAt + 3 * k)) (s .slots) freeSlot (h .slots)
+      each-is slotCount (λ k. slotIn (encode s) (slotsStart + 3 * k)) (s .slots) freeSlot (h .slots)
       (λ k l.
-      let u : getD (encode s) (slotsAt + 3 * k) 0 ≡ getD (s .slots) k freeSlot .used = rw add-zero at (slot-byte k 0 l (omega arith)) in
-      rw (u, add-assoc slotsAt (3 * k) 1, slot-byte k 1 l (omega arith), add-assoc slotsAt (3 * k) 2, slot-byte k 2 l (omega arith)))
+      let u : getD (encode s) (slotsStart + 3 * k) 0 ≡ getD (s .slots) k freeSlot .used = rw add-zero at (slot-byte k 0 l (omega arith)) in
+      rw (u, add-assoc slotsStart (3 * k) 1, slot-byte k 1 l (omega arith), add-assoc slotsStart (3 * k) 2, slot-byte k 2 l (omega arith)))
 
   sizes-back : (a : ℕ) (sizes : List ℕ) → length sizes ≡ files
       → ((f j : ℕ) → f < files → j < 4 → getD (encode s) (a + (4 * f + j)) 0 ≡ getD (numberBytes (getD sizes f 0)) j 0)
@@ -99,8 +99,8 @@ module _ (s : CacheState) (h : Shaped s) where
       rw (
         eq-eqb (length (encode s)) stateBytes length-encode,
         slots-back,
-        sizes-back logicalAt (s .logical) (h .logical) logical-byte,
-        sizes-back floorAt (s .floor) (h .floor) floor-byte,
+        sizes-back logicalStart (s .logical) (h .logical) logical-byte,
+        sizes-back floorStart (s .floor) (h .floor) floor-byte,
         mark-back,
       )
 
@@ -159,13 +159,13 @@ pieces (b ∷ xs) k l m e =
     (ap (λ (r : List ℕ). b ∷ r) (take-all (k + (l + m)) xs (omega arith)))
 
 module _ (bytes : List ℕ) (e : length bytes ≡ stateBytes) (small : areBytes bytes ≡ true) where
-  slots-there : joined slotBytes (slotsIn bytes) ≡ part bytes slotsAt 72
+  slots-there : concatMap slotBytes (slotsIn bytes) ≡ part bytes slotsStart 72
   unfolding slotsIn
   slots-there =
-      joined-each 3 slotBytes (λ k. slotIn bytes (slotsAt + 3 * k)) bytes slotsAt slotCount
-      (λ k l. part-three bytes (slotsAt + 3 * k) (rw e (omega arith)))
+      joined-each 3 slotBytes (λ k. slotIn bytes (slotsStart + 3 * k)) bytes slotsStart slotCount
+      (λ k l. part-three bytes (slotsStart + 3 * k) (rw e (omega arith)))
 
-  sizes-there : (a : ℕ) → a + 32 ≤ stateBytes → joined numberBytes (sizesIn bytes a) ≡ part bytes a 32
+  sizes-there : (a : ℕ) → a + 32 ≤ stateBytes → concatMap numberBytes (sizesIn bytes a) ≡ part bytes a 32
   unfolding sizesIn
   sizes-there a m =
       let small-at : (i : ℕ) → getD bytes i 0 < 256 = byte-at bytes small in
@@ -176,7 +176,7 @@ module _ (bytes : List ℕ) (e : length bytes ≡ stateBytes) (small : areBytes 
   there : encode (decode bytes) ≡ bytes
   unfolding decode encode
   there =
-      rw (eq-eqb (length bytes) stateBytes e, slots-there, sizes-there logicalAt (omega arith), sizes-there floorAt (omega arith))
+      rw (eq-eqb (length bytes) stateBytes e, slots-there, sizes-there logicalStart (omega arith), sizes-there floorStart (omega arith))
       (pieces bytes 72 32 32 e)
 
 pub inverse : Inverse

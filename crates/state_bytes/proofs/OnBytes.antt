@@ -1,4 +1,4 @@
--- Calls on a device whose state is lent as bytes: how they end, and that they are the calls on the device.
+-- Calls on a device whose state is borrowed as bytes: how they end, and that they are the calls on the device.
 use mathlib.Core.Path.{_≡_, sym, ap, _∙_}
 use mathlib.Core.Bool.{Bool, true, cond}
 use mathlib.Core.List.{List, [], _∷_, _++_}
@@ -34,7 +34,7 @@ use Rattle.device.proofs.Syncing.{sync-by}
 use Rattle.device.proofs.Mounting.{mount-by, format-by}
 use Rattle.state_bytes.specs.Encoding.{stateBytes, encode, decode}
 use Rattle.state_bytes.specs.Inverse.{Shaped, areBytes}
-use Rattle.state_bytes.specs.InPlace.{Lent, lent, deviceIn, lentOf, stateShape, lentTests, inBytes, onBytes, readBytes, lookCountBytes, lookSpanBytes}
+use Rattle.state_bytes.specs.InPlace.{Borrowed, borrowed, deviceIn, borrowedOf, stateShape, borrowedTests, inBytes, onBytes, readBytes, lookCountBytes, lookSpanBytes}
 use Rattle.state_bytes.proofs.Inverse.{inverse, length-encode}
 
 -- ---- the tests, on the bytes and then on the device
@@ -59,15 +59,15 @@ unfolding stateShape
 shape-too state ts e = cases (eqb (length state) stateBytes) (λ h. rw h e) (λ h. rw h)
 
 -- the calls on a file: what the answer of `admit` in the code says
-module _ (P : ℕ) (l : Lent) (f : ℕ) (range : Bool) (a : Answer) (e : coded a ≡ firstRefusal (lentTests P l f range) (done 0)) where
-  pub lent-passed : (k : ℕ) → a ≡ Done k → (length (l .state) ≡ stateBytes) × (passed (fileTests P (deviceIn l) f range) ≡ true)
-  lent-passed k = shape-passed (l .state) (fileTests P (deviceIn l) f range) a k (file-refusing P (deviceIn l) f range) e
+module _ (P : ℕ) (l : Borrowed) (f : ℕ) (range : Bool) (a : Answer) (e : coded a ≡ firstRefusal (borrowedTests P l f range) (done 0)) where
+  pub borrowed-passed : (k : ℕ) → a ≡ Done k → (length (l .state) ≡ stateBytes) × (passed (fileTests P (deviceIn l) f range) ≡ true)
+  borrowed-passed k = shape-passed (l .state) (fileTests P (deviceIn l) f range) a k (file-refusing P (deviceIn l) f range) e
 
-  pub lent-ready : (k : ℕ) → a ≡ Done k → Admitted P (deviceIn l) f range
-  lent-ready k q = file-admitted P (deviceIn l) f range (lent-passed k q .1)
+  pub borrowed-ready : (k : ℕ) → a ≡ Done k → Admitted P (deviceIn l) f range
+  borrowed-ready k q = file-admitted P (deviceIn l) f range (borrowed-passed k q .1)
 
-  pub lent-refused : (x : Refusal) → a ≡ Refused x → codedRefusal x ≡ firstRefusal (lentTests P l f range) (done 0)
-  lent-refused x q = coded-of a (Refused x) _ q e
+  pub borrowed-refused : (x : Refusal) → a ≡ Refused x → codedRefusal x ≡ firstRefusal (borrowedTests P l f range) (done 0)
+  borrowed-refused x q = coded-of a (Refused x) _ q e
 
 -- the first that fails is SHAPE of the state, or one of the others
 pub shape-refused : {A : Type 0} (state : List ℕ) (ts : List Test) (before : A) (r : Result A) (x : Refusal) → codedRefusal x ≡ firstRefusal (stateShape state ++ ts) (done 0)
@@ -81,14 +81,14 @@ shape-refused state ts before r x e k =
 
 -- ---- how a call ends
 
-module _ (call : Device → Result Device) (l : Lent) where
+module _ (call : Device → Result Device) (l : Borrowed) where
   -- refused, with everything as it came
   pub refused-on : (ts : List Test) (x : Refusal) → codedRefusal x ≡ firstRefusal (stateShape (l .state) ++ ts) (done 0) → areBytes (l .state) ≡ true
       → (codedRefusal x ≡ firstRefusal ts (done 0) → give (codedRefusal x) (deviceIn l) ≡ call (deviceIn l)) → give (codedRefusal x) l ≡ onBytes call l
   unfolding onBytes
   refused-on ts x e small k =
       shape-refused (l .state) ts l (inBytes (call (deviceIn l))) x e
-      (λ h r. ap (λ (b : List ℕ). give (codedRefusal x) (lent (l .media) (l .frames) b)) (sym (inverse .back-and-there (l .state) h small)) ∙ ap inBytes (k r))
+      (λ h r. ap (λ (b : List ℕ). give (codedRefusal x) (borrowed (l .media) (l .frames) b)) (sym (inverse .back-and-there (l .state) h small)) ∙ ap inBytes (k r))
 
   pub length-on : length (l .state) ≡ stateBytes → inBytes (call (deviceIn l)) ≡ onBytes call l
   unfolding onBytes stateShape
@@ -96,19 +96,19 @@ module _ (call : Device → Result Device) (l : Lent) where
 
   module _ (h : length (l .state) ≡ stateBytes) (a : Coded) where
     -- with the bytes of a state
-    pub state-on : (d : Device) → give a d ≡ call (deviceIn l) → give a (lentOf d) ≡ onBytes call l
+    pub state-on : (d : Device) → give a d ≡ call (deviceIn l) → give a (borrowedOf d) ≡ onBytes call l
     state-on d e = ap inBytes e ∙ length-on h
 
     -- with bytes that say the state
     pub bytes-on : (m : Media) (frames state : List ℕ) → length state ≡ stateBytes → areBytes state ≡ true
-        → give a (deviceOf m frames (decode state)) ≡ call (deviceIn l) → give a (lent m frames state) ≡ onBytes call l
+        → give a (deviceOf m frames (decode state)) ≡ call (deviceIn l) → give a (borrowed m frames state) ≡ onBytes call l
     bytes-on m frames state q small e =
-        ap (λ (b : List ℕ). give a (lent m frames b)) (sym (inverse .back-and-there state q small)) ∙ state-on (deviceOf m frames (decode state)) e
+        ap (λ (b : List ℕ). give a (borrowed m frames b)) (sym (inverse .back-and-there state q small)) ∙ state-on (deviceOf m frames (decode state)) e
 
 -- ---- read and look
 
-module _ (P f position : ℕ) (l : Lent) where
-  module _ (x : Refusal) (e : codedRefusal x ≡ firstRefusal (lentTests P l f (leb position (fileBytes P))) (done 0)) where
+module _ (P f position : ℕ) (l : Borrowed) where
+  module _ (x : Refusal) (e : codedRefusal x ≡ firstRefusal (borrowedTests P l f (leb position (fileBytes P))) (done 0)) where
     pub read-refused-on : (buffer : List ℕ) → give (codedRefusal x) buffer ≡ readBytes P f position buffer l
     unfolding readBytes
     read-refused-on buffer =
@@ -141,7 +141,7 @@ module _ (P f position : ℕ) (l : Lent) where
 -- ---- on the bytes of a state
 
 -- what is left, with the state that its bytes say
-abbrev said : Result Lent → Result Device
+abbrev said : Result Borrowed → Result Device
 said r = give (r .answer) (deviceIn (r .left))
 
 -- the state that a result leaves has the lengths of the arrays
@@ -149,24 +149,24 @@ abbrev pub Kind : Device → Result Device → Type 0
 Kind d r = Shaped (d .cache) → Shaped (r .left .cache)
 
 module _ (m : Media) (frames : List ℕ) (s : CacheState) (h : Shaped s) where
-  pub same-on : (call : Device → Result Device) → onBytes call (lent m frames (encode s)) ≡ inBytes (call (deviceOf m frames s))
+  pub same-on : (call : Device → Result Device) → onBytes call (borrowed m frames (encode s)) ≡ inBytes (call (deviceOf m frames s))
   unfolding onBytes stateShape
   same-on call = rw (eq-eqb (length (encode s)) stateBytes (length-encode s h), inverse .there-and-back s h)
 
   pub back-on : (call : Device → Result Device) → ((d : Device) → Kind d (call d)) → (a : Coded) (m' : Media) (frames' state' : List ℕ)
-      → give a (lent m' frames' state') ≡ onBytes call (lent m frames (encode s)) → give a (deviceOf m' frames' (decode state')) ≡ call (deviceOf m frames s)
+      → give a (borrowed m' frames' state') ≡ onBytes call (borrowed m frames (encode s)) → give a (deviceOf m' frames' (decode state')) ≡ call (deviceOf m frames s)
   back-on call kind a m' frames' state' e =
       ap said (e ∙ same-on call) ∙ rw (inverse .there-and-back (call (deviceOf m frames s) .left .cache) (kind (deviceOf m frames s) h))
 
   module _ (P f position : ℕ) where
-    pub same-read : (buffer : List ℕ) → readBytes P f position buffer (lent m frames (encode s)) ≡ read P f position buffer (deviceOf m frames s)
-    same-read buffer = sym (read-on P f position (lent m frames (encode s)) (length-encode s h) buffer) ∙ rw (inverse .there-and-back s h)
+    pub same-read : (buffer : List ℕ) → readBytes P f position buffer (borrowed m frames (encode s)) ≡ read P f position buffer (deviceOf m frames s)
+    same-read buffer = sym (read-on P f position (borrowed m frames (encode s)) (length-encode s h) buffer) ∙ rw (inverse .there-and-back s h)
 
-    pub same-count : lookCountBytes P f position (lent m frames (encode s)) ≡ lookCount P f position (deviceOf m frames s)
-    same-count = sym (count-on P f position (lent m frames (encode s)) (length-encode s h)) ∙ rw (inverse .there-and-back s h)
+    pub same-count : lookCountBytes P f position (borrowed m frames (encode s)) ≡ lookCount P f position (deviceOf m frames s)
+    same-count = sym (count-on P f position (borrowed m frames (encode s)) (length-encode s h)) ∙ rw (inverse .there-and-back s h)
 
-    pub same-span : lookSpanBytes P f position (lent m frames (encode s)) ≡ lookSpan P f position (deviceOf m frames s)
-    same-span = sym (span-on P f position (lent m frames (encode s)) (length-encode s h)) ∙ rw (inverse .there-and-back s h)
+    pub same-span : lookSpanBytes P f position (borrowed m frames (encode s)) ≡ lookSpan P f position (deviceOf m frames s)
+    same-span = sym (span-on P f position (borrowed m frames (encode s)) (length-encode s h)) ∙ rw (inverse .there-and-back s h)
 
 -- ---- the lengths of the arrays
 

@@ -15,7 +15,7 @@ use Rattle.memory.proofs.Cases.{split-eq}
 use Rattle.scan.specs.Scan.{every}
 use Rattle.scan.proofs.Scan.{and-left, and-right, and-assoc, is-false, true-not-false, everyBelow-at, everyBelow-all, every-at, every-all}
 use Rattle.device.specs.Device.{slotCount}
-use Rattle.state_bytes.specs.Encoding.{stateBytes, slotsAt, numberIn, zerosFrom, slotsZero}
+use Rattle.state_bytes.specs.Encoding.{stateBytes, slotsStart, numberIn, zerosFrom, slotsZero}
 
 zeros-at : (bytes : List ℕ) (a n : ℕ) → zerosFrom bytes a n ≡ true → (i : ℕ) → i < n → getD bytes (a + i) 0 ≡ 0
 unfolding zerosFrom
@@ -88,8 +88,8 @@ zeros-part bytes a n h =
 
 -- what the test shows
 pub slots-zero-at : (bytes : List ℕ) (k n : ℕ) → slotsZero bytes k n ≡ true
-    → (length bytes ≡ stateBytes) × (k + n ≤ slotCount) × ((i : ℕ) → i < 3 * n → getD bytes (slotsAt + 3 * k + i) 0 ≡ 0)
+    → (length bytes ≡ stateBytes) × (k + n ≤ slotCount) × ((i : ℕ) → i < 3 * n → getD bytes (slotsStart + 3 * k + i) 0 ≡ 0)
 unfolding slotsZero
 slots-zero-at bytes k n e =
     let r = and-right (eqb (length bytes) stateBytes) _ e in
-    (eqb-true _ _ (and-left (eqb (length bytes) stateBytes) _ e), leb-true _ _ (and-left (leb (k + n) slotCount) _ r), zeros-at bytes (slotsAt + 3 * k) (3 * n) (and-right (leb (k + n) slotCount) _ r))
+    (eqb-true _ _ (and-left (eqb (length bytes) stateBytes) _ e), leb-true _ _ (and-left (leb (k + n) slotCount) _ r), zeros-at bytes (slotsStart + 3 * k) (3 * n) (and-right (leb (k + n) slotCount) _ r))

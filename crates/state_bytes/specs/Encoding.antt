@@ -20,14 +20,14 @@ use Rattle.device.specs.Device.{slotCount, downState}
 abbrev pub stateBytes : ℕ
 stateBytes = 137
 
-abbrev pub slotsAt : ℕ
-slotsAt = 1
+abbrev pub slotsStart : ℕ
+slotsStart = 1
 
-abbrev pub logicalAt : ℕ
-logicalAt = 73
+abbrev pub logicalStart : ℕ
+logicalStart = 73
 
-abbrev pub floorAt : ℕ
-floorAt = 105
+abbrev pub floorStart : ℕ
+floorStart = 105
 
 -- ---- written
 
@@ -39,12 +39,12 @@ abbrev pub numberBytes : ℕ → List ℕ
 numberBytes n = n % 256 ∷ n / 256 % 256 ∷ n / 65536 % 256 ∷ n / 16777216 ∷ []
 
 -- the bytes of each element, one after the other
-abbrev pub joined : {A : Type 0} → (A → List ℕ) → List A → List ℕ
-joined g [] = []
-joined g (x ∷ xs) = g x ++ joined g xs
+abbrev pub concatMap : {A : Type 0} → (A → List ℕ) → List A → List ℕ
+concatMap g [] = []
+concatMap g (x ∷ xs) = g x ++ concatMap g xs
 
 unfoldable pub encode : CacheState → List ℕ
-encode s = s .mounted ∷ (joined slotBytes (s .slots) ++ (joined numberBytes (s .logical) ++ joined numberBytes (s .floor)))
+encode s = s .mounted ∷ (concatMap slotBytes (s .slots) ++ (concatMap numberBytes (s .logical) ++ concatMap numberBytes (s .floor)))
 
 -- ---- read
 
@@ -64,7 +64,7 @@ each zero g = []
 each (suc n) g = each n g ++ (g n ∷ [])
 
 unfoldable pub slotsIn : List ℕ → List Slot
-slotsIn bytes = each slotCount (λ k. slotIn bytes (slotsAt + 3 * k))
+slotsIn bytes = each slotCount (λ k. slotIn bytes (slotsStart + 3 * k))
 
 unfoldable pub sizesIn : List ℕ → ℕ → List ℕ
 sizesIn bytes a = each files (λ f. numberIn bytes (a + 4 * f))
@@ -73,7 +73,7 @@ sizesIn bytes a = each files (λ f. numberIn bytes (a + 4 * f))
 unfoldable pub decode : List ℕ → CacheState
 decode bytes =
     cond (eqb (length bytes) stateBytes)
-    (record { mounted = getD bytes 0 0; slots = slotsIn bytes; logical = sizesIn bytes logicalAt; floor = sizesIn bytes floorAt })
+    (record { mounted = getD bytes 0 0; slots = slotsIn bytes; logical = sizesIn bytes logicalStart; floor = sizesIn bytes floorStart })
     downState
 
 -- a buffer after the state was written to it; one of another length stays as it is
@@ -89,7 +89,7 @@ elementSet g a c n bytes k x = cond (eqb (length bytes) stateBytes && ltb k n) (
 
 -- another slot k
 abbrev pub slotSet : List ℕ → ℕ → Slot → List ℕ
-slotSet = elementSet slotBytes slotsAt 3 slotCount
+slotSet = elementSet slotBytes slotsStart 3 slotCount
 
 -- another size of file f, among the sizes that begin at a
 abbrev pub sizeSet : ℕ → List ℕ → ℕ → ℕ → List ℕ
@@ -103,4 +103,4 @@ zerosFrom bytes a n = everyBelow n (λ i. eqb (getD bytes (a + i) 0) 0)
 
 -- the bytes of n slots from slot k on, where there are as many, are 0
 unfoldable pub slotsZero : List ℕ → ℕ → ℕ → Bool
-slotsZero bytes k n = eqb (length bytes) stateBytes && (leb (k + n) slotCount && zerosFrom bytes (slotsAt + 3 * k) (3 * n))
+slotsZero bytes k n = eqb (length bytes) stateBytes && (leb (k + n) slotCount && zerosFrom bytes (slotsStart + 3 * k) (3 * n))

@@ -1,3 +1,4 @@
 pub mod Encoding
 pub mod InPlace
+pub mod Moments
 pub mod Inverse

@@ -10,17 +10,17 @@ ghost use lib.ListN.{length, getD};
 ghost use Rattle.memory.specs.Bytes.{overwrite};
 ghost use Rattle.media.specs.Geometry.{files};
 ghost use Rattle.device.specs.Device.{slotCount, freeSlot};
-ghost use Rattle.state_bytes.specs.Encoding.{stateBytes, slotsAt, slotBytes, numberBytes, joined, encoded, slotIn, slotWord, numberIn, slotsIn, sizesIn, decode, logicalAt, floorAt, slotSet, sizeSet, zerosFrom, slotsZero};
+ghost use Rattle.state_bytes.specs.Encoding.{stateBytes, slotsStart, slotBytes, numberBytes, concatMap, encoded, slotIn, slotWord, numberIn, slotsIn, sizesIn, decode, logicalStart, floorStart, slotSet, sizeSet, zerosFrom, slotsZero};
 
 // The length of the buffer.
 pub const STATE_BYTES: usize = 137;
 
 // Where the slots begin, three bytes each.
-pub const SLOTS_AT: usize = 1;
+pub const SLOTS_START: usize = 1;
 
-const LOGICAL_AT: usize = 73;
+const LOGICAL_START: usize = 73;
 
-const FLOOR_AT: usize = 105;
+const FLOOR_START: usize = 105;
 
 fn put_slot(state: &mut [u8], at: usize, s: Slot)
     requires { ⌜ (length (now state) ≡ stateBytes) × (at + 3 ≤ stateBytes) ⌝ }
@@ -33,11 +33,11 @@ fn put_slot(state: &mut [u8], at: usize, s: Slot)
 
 fn put_slots(state: &mut [u8], slots: [Slot; device::SLOTS])
     requires { ⌜ length (now state) ≡ stateBytes ⌝ }
-    ensures { λ r. ⌜ now (state .exit) ≡ overwrite (now (state .entry)) slotsAt (joined slotBytes slots) ⌝ }
+    ensures { λ r. ⌜ now (state .exit) ≡ overwrite (now (state .entry)) slotsStart (concatMap slotBytes slots) ⌝ }
 {
     let mut k = 0;
     while k < device::SLOTS {
-        put_slot(state, SLOTS_AT + 3 * k, slots[k]);
+        put_slot(state, SLOTS_START + 3 * k, slots[k]);
         k += 1;
     }
 }
@@ -55,7 +55,7 @@ fn put_number(state: &mut [u8], at: usize, n: u32)
 
 fn put_sizes(state: &mut [u8], at: usize, sizes: [u32; media::FILES])
     requires { ⌜ (length (now state) ≡ stateBytes) × (at + 4 * files ≤ stateBytes) ⌝ }
-    ensures { λ r. ⌜ now (state .exit) ≡ overwrite (now (state .entry)) at (joined numberBytes sizes) ⌝ }
+    ensures { λ r. ⌜ now (state .exit) ≡ overwrite (now (state .entry)) at (concatMap numberBytes sizes) ⌝ }
 {
     let mut f = 0;
     while f < media::FILES {
@@ -75,8 +75,8 @@ pub fn encode(cache: CacheState, state: &mut [u8])
         let floor = cache.floor;
         state[0] = mounted;
         put_slots(state, slots);
-        put_sizes(state, LOGICAL_AT, logical);
-        put_sizes(state, FLOOR_AT, floor);
+        put_sizes(state, LOGICAL_START, logical);
+        put_sizes(state, FLOOR_START, floor);
     }
 }
 
@@ -98,7 +98,7 @@ fn slots_in(state: &[u8]) -> [Slot; device::SLOTS]
     let mut slots = device::no_slots();
     let mut k = 0;
     while k < device::SLOTS {
-        slots[k] = slot_in(state, SLOTS_AT + 3 * k);
+        slots[k] = slot_in(state, SLOTS_START + 3 * k);
         k += 1;
     }
     slots
@@ -145,8 +145,8 @@ pub fn decode(state: &[u8]) -> CacheState
         return CacheState {
             mounted,
             slots: slots_in(state),
-            logical: sizes_in(state, LOGICAL_AT),
-            floor: sizes_in(state, FLOOR_AT),
+            logical: sizes_in(state, LOGICAL_START),
+            floor: sizes_in(state, FLOOR_START),
         };
     }
     device::down_state()
@@ -158,7 +158,7 @@ pub fn slot_at(state: &[u8], k: usize) -> Slot
 {
     if state.len() == STATE_BYTES {
         if k < device::SLOTS {
-            return slot_in(state, SLOTS_AT + 3 * k);
+            return slot_in(state, SLOTS_START + 3 * k);
         }
         return device::free_slot();
     }
@@ -171,7 +171,7 @@ pub fn slot_word(state: &[u8], k: usize) -> u32
 {
     if state.len() == STATE_BYTES {
         if k < device::SLOTS {
-            return number_in(state, SLOTS_AT + 3 * k) % 16777216;
+            return number_in(state, SLOTS_START + 3 * k) % 16777216;
         }
     }
     0
@@ -183,7 +183,7 @@ pub fn logical_at(state: &[u8], file: usize) -> u32
 {
     if state.len() == STATE_BYTES {
         if file < media::FILES {
-            return number_in(state, LOGICAL_AT + 4 * file);
+            return number_in(state, LOGICAL_START + 4 * file);
         }
     }
     0
@@ -195,7 +195,7 @@ pub fn floor_at(state: &[u8], file: usize) -> u32
 {
     if state.len() == STATE_BYTES {
         if file < media::FILES {
-            return number_in(state, FLOOR_AT + 4 * file);
+            return number_in(state, FLOOR_START + 4 * file);
         }
     }
     0
@@ -207,7 +207,7 @@ pub fn set_slot(state: &mut [u8], k: usize, s: Slot)
 {
     if state.len() == STATE_BYTES {
         if k < device::SLOTS {
-            put_slot(state, SLOTS_AT + 3 * k, s);
+            put_slot(state, SLOTS_START + 3 * k, s);
         }
     }
 }
@@ -226,16 +226,16 @@ fn set_size(state: &mut [u8], at: usize, file: usize, n: u32)
 
 // The logical size of a file becomes n.
 pub fn set_logical(state: &mut [u8], file: usize, n: u32)
-    ensures { λ r. ⌜ now (state .exit) ≡ sizeSet logicalAt (now (state .entry)) file n ⌝ }
+    ensures { λ r. ⌜ now (state .exit) ≡ sizeSet logicalStart (now (state .entry)) file n ⌝ }
 {
-    set_size(state, LOGICAL_AT, file, n);
+    set_size(state, LOGICAL_START, file, n);
 }
 
 // The floor of a file becomes n.
 pub fn set_floor(state: &mut [u8], file: usize, n: u32)
-    ensures { λ r. ⌜ now (state .exit) ≡ sizeSet floorAt (now (state .entry)) file n ⌝ }
+    ensures { λ r. ⌜ now (state .exit) ≡ sizeSet floorStart (now (state .entry)) file n ⌝ }
 {
-    set_size(state, FLOOR_AT, file, n);
+    set_size(state, FLOOR_START, file, n);
 }
 
 // Eight bytes as one number, low byte first.
@@ -249,7 +249,7 @@ fn word_in(state: &[u8], at: usize) -> u64
 }
 
 // Whether 24 bytes are 0.
-fn is_zero(state: &[u8], at: usize) -> bool
+fn three_words_zero(state: &[u8], at: usize) -> bool
     requires { ⌜ at + 24 ≤ length (now state) ⌝ }
     ensures { λ r. ⌜ r ≡ zerosFrom (now (state .entry)) at 24 ⌝ }
 {
@@ -267,7 +267,7 @@ pub fn eight_free(state: &[u8], k: usize) -> bool
 {
     if state.len() == STATE_BYTES {
         if k <= device::SLOTS - 8 {
-            return is_zero(state, SLOTS_AT + 3 * k);
+            return three_words_zero(state, SLOTS_START + 3 * k);
         }
     }
     false
@@ -278,7 +278,7 @@ pub fn all_free(state: &[u8]) -> bool
     ensures { λ r. ⌜ r ≡ slotsZero (now (state .entry)) 0 slotCount ⌝ }
 {
     if state.len() == STATE_BYTES {
-        return scan::all_zero(&state[SLOTS_AT..LOGICAL_AT]);
+        return scan::all_zero(&state[SLOTS_START..LOGICAL_START]);
     }
     false
 }

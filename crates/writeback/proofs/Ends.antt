@@ -18,11 +18,11 @@ use Rattle.device.proofs.Admission.{admit-refused}
 use Rattle.device.proofs.Plan.{plan-ends}
 use Rattle.state_bytes.specs.Encoding.{stateBytes, encode, decode}
 use Rattle.state_bytes.specs.Inverse.{areBytes}
-use Rattle.state_bytes.specs.InPlace.{Lent, lent, deviceIn, lentTests, onBytes}
+use Rattle.state_bytes.specs.InPlace.{Borrowed, borrowed, deviceIn, borrowedTests, onBytes}
 use Rattle.state_bytes.proofs.OnBytes.{refused-on, state-on, bytes-on}
 
-module _ (P f budget : ℕ) (l : Lent) where
-  pub refused-ends : (x : Refusal) → codedRefusal x ≡ firstRefusal (lentTests P l f true) (done 0) → areBytes (l .state) ≡ true
+module _ (P f budget : ℕ) (l : Borrowed) where
+  pub refused-ends : (x : Refusal) → codedRefusal x ≡ firstRefusal (borrowedTests P l f true) (done 0) → areBytes (l .state) ≡ true
       → give (codedRefusal x) l ≡ onBytes (sync P f budget) l
   unfolding sync
   refused-ends x e small =
@@ -34,9 +34,9 @@ module _ (P f budget : ℕ) (l : Lent) where
     unfolding sync
     ends = plan-ends P budget (syncPlan P (deviceIn l) f) (syncedState (decode (l .state)) f) (deviceIn l) n m x (fileTests P (deviceIn l) f true) ok
 
-    pub cut-ends : budget < n → give (CUT budget) (lent m (l .frames) (encode downState)) ≡ onBytes (sync P f budget) l
+    pub cut-ends : budget < n → give (CUT budget) (borrowed m (l .frames) (encode downState)) ≡ onBytes (sync P f budget) l
     cut-ends k = state-on (sync P f budget) l h (CUT budget) (deviceOf m (l .frames) downState) (rw (lt-ltb budget n k) at ends)
 
     pub done-ends : n ≤ budget → (after : List ℕ) → length after ≡ stateBytes → areBytes after ≡ true → decode after ≡ syncedState (decode (l .state)) f
-        → give (done n) (lent m (l .frames) after) ≡ onBytes (sync P f budget) l
+        → give (done n) (borrowed m (l .frames) after) ≡ onBytes (sync P f budget) l
     done-ends k after q small e = bytes-on (sync P f budget) l h (done n) m (l .frames) after q small (rw (le-ltb budget n k, ← e) at ends)

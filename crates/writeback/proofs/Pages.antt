@@ -15,8 +15,8 @@ use Rattle.device.specs.Plan.{writeIf, Spent}
 use Rattle.device.specs.Syncing.{trimWrites, pageWrite, pageWrites, sizeWrites, syncPlan}
 use Rattle.device.proofs.Plan.{at-most-one, spent-none, spent-join}
 use Rattle.device.proofs.Syncing.{pages-more}
-use Rattle.cache_state.specs.Tables.{slotTable, slotFor}
-use Rattle.cache_state.proofs.Pass.{slot-for}
+use Rattle.admission.specs.Tables.{slotTable, slotFor}
+use Rattle.admission.proofs.Pass.{slot-for}
 
 -- one write at most is one more at most
 pub one-more : {P budget n k : ℕ} {m c : Media} (b : Bool) (w : MediaWrite) → Spent P budget m n k (writeIf b w) c → k ≤ n + 1

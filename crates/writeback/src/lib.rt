@@ -1,7 +1,7 @@
 // The calls that write to the media: sync, mount and format.
 //
 // Each carries out a plan of media writes. Where the budget pays for all of them, it is done with their number as count. Where it
-// does not, as many first writes are done as it pays for, the answer is CUT, and the state that is left is down. The state is lent as
+// does not, as many first writes are done as it pays for, the answer is CUT, and the state that is left is down. The state is borrowed as
 // bytes. Of these, mount and format look at their number only.
 use answer::Answer;
 use answer::Refusal;
@@ -18,14 +18,17 @@ ghost use Rattle.media.specs.Geometry.{files, pagesPerFile, pageBytes, fileByte
 ghost use Rattle.media.specs.Write.{Media, mediaOf, sizeAt, apply};
 ghost use Rattle.media.specs.Write.MediaWrite.{page, size, trim};
 ghost use Rattle.scan.specs.Scan.{every};
-ghost use Rattle.device.specs.Device.{Device, deviceOf, slotCount, framesBytes, frameStart, downState};
+ghost use Rattle.device.specs.Device.{Device, slotCount, framesBytes, frameStart, downState};
 ghost use Rattle.device.specs.Admission.{give};
 ghost use Rattle.device.specs.Plan.{writeIf, budgeted, Spent};
 ghost use Rattle.device.specs.Syncing.{pageWrites, syncPlan, syncedState, sync};
 ghost use Rattle.device.specs.Mounting.{nonzeroFrom, mountPlan, mount, formatPlan, format};
 ghost use Rattle.state_bytes.specs.Encoding.{stateBytes, encode, decode};
-ghost use Rattle.state_bytes.specs.InPlace.{lent, inBytes, onBytes};
-ghost use Rattle.cache_state.specs.Tables.{slotTable};
+ghost use Rattle.state_bytes.specs.InPlace.{borrowed, inBytes, onBytes};
+ghost use Rattle.admission.specs.Tables.{slotTable};
+ghost use Rattle.media.specs.Moments.{mediaAtEntry, mediaAtExit};
+ghost use Rattle.device.specs.Moments.{deviceAtEntry};
+ghost use Rattle.state_bytes.specs.Moments.{borrowedAtEntry, borrowedAtExit};
 
 // TRIM, if it is wanted and the budget pays. The number of writes needed so far comes back, with this one.
 fn trim_if(
@@ -39,8 +42,8 @@ fn trim_if(
 ) -> usize
     requires { ⌜ (length (now media) ≡ mediaBytes pagesPerFile) × (length (now sizes) ≡ files) × (file < files)
         × (n ≤ getD (now sizes) file 0) × (n ≤ fileBytes pagesPerFile) × (needed < 2 ^ 32) ⌝ }
-    ensures { λ r. ⌜ Spent pagesPerFile budget (mediaOf (now (media .entry)) (now (sizes .entry))) needed r
-        (writeIf wanted (trim file n)) (mediaOf (now (media .exit)) (now (sizes .exit))) ⌝ }
+    ensures { λ r. ⌜ Spent pagesPerFile budget (mediaAtEntry media sizes) needed r
+        (writeIf wanted (trim file n)) (mediaAtExit media sizes) ⌝ }
 {
     if wanted {
         if needed < budget {
@@ -57,7 +60,8 @@ fn write_frame(media: &mut [u8], frames: &[u8], file: usize, number: usize, k: u
     requires { ⌜ (fileBytes pages < 2 ^ 32) × (length (now media) ≡ mediaBytes pages) × (length (now frames) ≡ framesBytes)
         × (file < files) × (number < pages) × (k < slotCount) ⌝ }
     ensures { λ r. ⌜ ((stored : List ℕ) → mediaOf (now (media .exit)) stored
-        ≡ apply pages (mediaOf (now (media .entry)) stored) (page file number (part (now (frames .entry)) (frameStart k) pageBytes))) ⌝ }
+        ≡ apply pages (mediaOf (now (media .entry)) stored) (page file number (part (now (frames .entry))
+        (frameStart k) pageBytes))) ⌝ }
 {
     let from = file * (media::PAGE_BYTES * pages) + media::PAGE_BYTES * number;
     let end = from + media::PAGE_BYTES;
@@ -79,7 +83,8 @@ fn page_if(
     requires { ⌜ (length (now media) ≡ mediaBytes pagesPerFile) × (length (now frames) ≡ framesBytes) × (file < files)
         × (number < pagesPerFile) × (needed < 2 ^ 32) ⌝ }
     ensures { λ r. ⌜ ((stored : List ℕ) → Spent pagesPerFile budget (mediaOf (now (media .entry)) stored) needed r
-        (writeIf (ltb k slotCount) (page file number (part (now (frames .entry)) (frameStart k) pageBytes))) (mediaOf (now (media .exit)) stored)) ⌝ }
+        (writeIf (ltb k slotCount) (page file number (part (now (frames .entry)) (frameStart k) pageBytes)))
+        (mediaOf (now (media .exit)) stored)) ⌝ }
 {
     if k < device::SLOTS {
         if needed < budget {
@@ -96,21 +101,24 @@ fn page_if(
 fn write_pages(
     media: &mut [u8],
     frames: &[u8],
-    slots: &[u8; cache_state::TABLE],
+    table: &[u8; admission::TABLE],
     file: usize,
     budget: usize,
     before: usize,
 ) -> usize
-    requires { ⌜ (length (now media) ≡ mediaBytes pagesPerFile) × (length (now frames) ≡ framesBytes) × (file < files) × (before ≤ 1) ⌝ }
+    requires { ⌜ (length (now media) ≡ mediaBytes pagesPerFile) × (length (now frames) ≡ framesBytes) × (file < files)
+        × (before ≤ 1) ⌝ }
     ensures { λ r. ⌜ (r ≤ before + pagesPerFile)
-        × ((stored : List ℕ) (d : Device) → d .frames ≡ now (frames .entry) → now (slots .entry) ≡ slotTable pagesPerFile (d .cache .slots)
-        → Spent pagesPerFile budget (mediaOf (now (media .entry)) stored) before r (pageWrites d file pagesPerFile 0) (mediaOf (now (media .exit)) stored)) ⌝ }
+        × ((stored : List ℕ) (d : Device) → d .frames ≡ now (frames .entry)
+        → now (table .entry) ≡ slotTable pagesPerFile (d .cache .slots)
+        → Spent pagesPerFile budget (mediaOf (now (media .entry)) stored) before r (pageWrites d file pagesPerFile 0)
+        (mediaOf (now (media .exit)) stored)) ⌝ }
 {
     let mut needed = before;
     let mut left = media::PAGES_PER_FILE;
     while 0 < left {
         let number = media::PAGES_PER_FILE - left;
-        let k = cache_state::slot_of(slots, file, number);
+        let k = admission::slot_of(table, file, number);
         needed = page_if(media, frames, file, number, k, budget, needed);
         left -= 1;
     }
@@ -129,8 +137,8 @@ fn size_if(
 ) -> usize
     requires { ⌜ (length (now media) ≡ mediaBytes pagesPerFile) × (length (now sizes) ≡ files) × (file < files)
         × (n ≤ fileBytes pagesPerFile) × (needed < 2 ^ 32) ⌝ }
-    ensures { λ r. ⌜ Spent pagesPerFile budget (mediaOf (now (media .entry)) (now (sizes .entry))) needed r
-        (writeIf wanted (size file n)) (mediaOf (now (media .entry)) (now (sizes .exit))) ⌝ }
+    ensures { λ r. ⌜ Spent pagesPerFile budget (mediaAtEntry media sizes) needed r
+        (writeIf wanted (size file n)) (mediaAtExit media sizes) ⌝ }
 {
     if wanted {
         if needed < budget {
@@ -148,24 +156,26 @@ fn sync_writes(
     sizes: &mut [u32],
     frames: &[u8],
     state: &[u8],
-    slots: &[u8; cache_state::TABLE],
+    table: &[u8; admission::TABLE],
     file: usize,
     budget: usize,
 ) -> usize
-    requires { ⌜ (length (now media) ≡ mediaBytes pagesPerFile) × (length (now sizes) ≡ files) × (length (now frames) ≡ framesBytes) × (file < files)
+    requires { ⌜ (length (now media) ≡ mediaBytes pagesPerFile) × (length (now sizes) ≡ files)
+        × (length (now frames) ≡ framesBytes) × (file < files)
         × (getD ((decode (now state)) .floor) file 0 ≤ getD (now sizes) file 0)
         × (getD ((decode (now state)) .floor) file 0 ≤ getD ((decode (now state)) .logical) file 0)
-        × (getD ((decode (now state)) .logical) file 0 ≤ fileBytes pagesPerFile) × (now slots ≡ slotTable pagesPerFile ((decode (now state)) .slots)) ⌝ }
-    ensures { λ r. ⌜ Spent pagesPerFile budget (mediaOf (now (media .entry)) (now (sizes .entry))) 0 r
-        (syncPlan pagesPerFile (deviceOf (mediaOf (now (media .entry)) (now (sizes .entry))) (now (frames .entry)) (decode (now (state .entry)))) file)
-        (mediaOf (now (media .exit)) (now (sizes .exit))) ⌝ }
+        × (getD ((decode (now state)) .logical) file 0 ≤ fileBytes pagesPerFile)
+        × (now table ≡ slotTable pagesPerFile ((decode (now state)) .slots)) ⌝ }
+    ensures { λ r. ⌜ Spent pagesPerFile budget (mediaAtEntry media sizes) 0 r
+        (syncPlan pagesPerFile (deviceAtEntry media sizes frames (decode (now (state .entry)))) file)
+        (mediaAtExit media sizes) ⌝ }
 {
     let logical = state_bytes::logical_at(state, file) as usize;
     let floor = state_bytes::floor_at(state, file) as usize;
     let stored = sizes[file] as usize;
     let resized = logical != floor;
     let trims = trim_if(media, sizes, file, floor, floor < stored, budget, 0);
-    let writes = write_pages(media, frames, slots, file, budget, trims);
+    let writes = write_pages(media, frames, table, file, budget, trims);
     size_if(media, sizes, file, logical, resized, budget, writes)
 }
 
@@ -175,7 +185,7 @@ fn sync_state(state: &mut [u8], file: usize)
     ensures { λ r. ⌜ decode (now (state .exit)) ≡ syncedState (decode (now (state .entry))) file ⌝ }
 {
     let logical = state_bytes::logical_at(state, file);
-    cache_state::free_pages_from(state, file, 0);
+    admission::free_pages_from(state, file, 0);
     state_bytes::set_floor(state, file, logical);
 }
 
@@ -198,23 +208,23 @@ pub fn sync(
     file: usize,
     budget: usize,
 ) -> Answer
-    ensures { λ r. ⌜ give (coded r) (lent (mediaOf (now (media .exit)) (now (sizes .exit))) (now (frames .entry)) (now (state .exit)))
-        ≡ onBytes (sync pagesPerFile file budget) (lent (mediaOf (now (media .entry)) (now (sizes .entry))) (now (frames .entry)) (now (state .entry))) ⌝ }
+    ensures { λ r. ⌜ give (coded r) (borrowedAtExit media sizes frames state)
+        ≡ onBytes (sync pagesPerFile file budget) (borrowedAtEntry media sizes frames state) ⌝ }
 {
-    let mut slots = [0u8; cache_state::TABLE];
-    let admission = cache_state::admit(
+    let mut table = [0u8; admission::TABLE];
+    let admitted = admission::admit(
         media.len(),
         sizes,
         frames.len(),
         state,
         file,
         true,
-        &mut slots,
+        &mut table,
     );
-    match admission {
+    match admitted {
         Answer::Refused(refusal) => Answer::Refused(refusal),
         Answer::Done(_) => {
-            let needed = sync_writes(media, sizes, frames, state, &slots, file, budget);
+            let needed = sync_writes(media, sizes, frames, state, &table, file, budget);
             if budget < needed {
                 return cut(state, budget);
             }
@@ -228,7 +238,7 @@ pub fn sync(
 // leaves the device down.
 fn finish(state: &mut [u8], writes: usize, budget: usize, cache: CacheState) -> Answer
     requires { ⌜ length (now state) ≡ stateBytes ⌝ }
-    ensures { λ r. ⌜ ((m : Media) (frames : List ℕ) → give (coded r) (lent m frames (now (state .exit)))
+    ensures { λ r. ⌜ ((m : Media) (frames : List ℕ) → give (coded r) (borrowed m frames (now (state .exit)))
         ≡ inBytes (budgeted budget writes m frames cache)) ⌝ }
 {
     if budget < writes {
@@ -239,7 +249,7 @@ fn finish(state: &mut [u8], writes: usize, budget: usize, cache: CacheState) -> 
 }
 
 // Whether all bytes are 0. A page at a time, since a loop of a known length is faster.
-fn is_zero(bytes: &[u8]) -> bool
+fn all_zero_by_pages(bytes: &[u8]) -> bool
     ensures { λ r. ⌜ r ≡ every (λ b. eqb b 0) (now (bytes .entry)) ⌝ }
 {
     let mut from = 0;
@@ -261,7 +271,7 @@ fn nonzero_from(media: &[u8], file: usize, n: usize) -> bool
     let file_len = media::PAGE_BYTES * media::PAGES_PER_FILE;
     let from = file * file_len + n;
     let end = file * file_len + file_len;
-    !is_zero(&media[from..end])
+    !all_zero_by_pages(&media[from..end])
 }
 
 // One file of a mount: TRIM to its stored size, where a byte at or past it is nonzero.
@@ -274,9 +284,9 @@ fn mount_file(
 ) -> usize
     requires { ⌜ (length (now media) ≡ mediaBytes pagesPerFile) × (length (now sizes) ≡ files) × (file < files)
         × (getD (now sizes) file 0 ≤ fileBytes pagesPerFile) × (needed < 2 ^ 32) ⌝ }
-    ensures { λ r. ⌜ Spent pagesPerFile budget (mediaOf (now (media .entry)) (now (sizes .entry))) needed r
-        (writeIf (nonzeroFrom pagesPerFile (mediaOf (now (media .entry)) (now (sizes .entry))) file (sizeAt (mediaOf (now (media .entry)) (now (sizes .entry))) file))
-        (trim file (sizeAt (mediaOf (now (media .entry)) (now (sizes .entry))) file))) (mediaOf (now (media .exit)) (now (sizes .exit))) ⌝ }
+    ensures { λ r. ⌜ Spent pagesPerFile budget (mediaAtEntry media sizes) needed r
+        (writeIf (nonzeroFrom pagesPerFile (mediaAtEntry media sizes) file (sizeAt (mediaAtEntry media sizes) file))
+        (trim file (sizeAt (mediaAtEntry media sizes) file))) (mediaAtExit media sizes) ⌝ }
 {
     let n = sizes[file] as usize;
     let wanted = nonzero_from(media, file, n);
@@ -287,8 +297,8 @@ fn mount_file(
 fn mount_files(media: &mut [u8], sizes: &mut [u32], budget: usize) -> usize
     requires { ⌜ (length (now media) ≡ mediaBytes pagesPerFile) × (length (now sizes) ≡ files)
         × ((f : ℕ) → f < files → getD (now sizes) f 0 ≤ fileBytes pagesPerFile) ⌝ }
-    ensures { λ r. ⌜ Spent pagesPerFile budget (mediaOf (now (media .entry)) (now (sizes .entry))) 0 r
-        (mountPlan pagesPerFile (mediaOf (now (media .entry)) (now (sizes .entry)))) (mediaOf (now (media .exit)) (now (sizes .exit))) ⌝ }
+    ensures { λ r. ⌜ Spent pagesPerFile budget (mediaAtEntry media sizes) 0 r
+        (mountPlan pagesPerFile (mediaAtEntry media sizes)) (mediaAtExit media sizes) ⌝ }
 {
     let mut needed = 0;
     let mut f = 0;
@@ -316,16 +326,16 @@ fn sizes_array(sizes: &[u32]) -> [u32; media::FILES]
 // Mount: brings the device up, with no page cached and the stored sizes. Bytes past a stored size are cleared first, by TRIM.
 // Of the state that comes in only the length is looked at.
 pub fn mount(media: &mut [u8], sizes: &mut [u32], state: &mut [u8], budget: usize) -> Answer
-    ensures { λ r. ⌜ ((frames : List ℕ) → give (coded r) (lent (mediaOf (now (media .exit)) (now (sizes .exit))) frames (now (state .exit)))
-        ≡ onBytes (mount pagesPerFile budget) (lent (mediaOf (now (media .entry)) (now (sizes .entry))) frames (now (state .entry)))) ⌝ }
+    ensures { λ r. ⌜ ((frames : List ℕ) → give (coded r) (borrowed (mediaAtExit media sizes) frames (now (state .exit)))
+        ≡ onBytes (mount pagesPerFile budget) (borrowed (mediaAtEntry media sizes) frames (now (state .entry)))) ⌝ }
 {
-    let admission = cache_state::admit_mount(media.len(), sizes, state);
-    match admission {
+    let admitted = admission::admit_mount(media.len(), sizes, state);
+    match admitted {
         Answer::Refused(refusal) => Answer::Refused(refusal),
         Answer::Done(_) => {
             let found = sizes_array(sizes);
             let trims = mount_files(media, sizes, budget);
-            finish(state, trims, budget, cache_state::mounted_state(found))
+            finish(state, trims, budget, admission::mounted_state(found))
         }
     }
 }
@@ -333,8 +343,8 @@ pub fn mount(media: &mut [u8], sizes: &mut [u32], state: &mut [u8], budget: usiz
 // Whether a file has a nonzero byte or a nonzero stored size.
 fn needs_format(media: &[u8], sizes: &[u32], file: usize) -> bool
     requires { ⌜ (length (now media) ≡ mediaBytes pagesPerFile) × (length (now sizes) ≡ files) × (file < files) ⌝ }
-    ensures { λ r. ⌜ r ≡ nonzeroFrom pagesPerFile (mediaOf (now (media .entry)) (now (sizes .entry))) file 0
-        || not (eqb (sizeAt (mediaOf (now (media .entry)) (now (sizes .entry))) file) 0) ⌝ }
+    ensures { λ r. ⌜ r ≡ nonzeroFrom pagesPerFile (mediaAtEntry media sizes) file 0
+        || not (eqb (sizeAt (mediaAtEntry media sizes) file) 0) ⌝ }
 {
     if sizes[file] != 0 {
         return true;
@@ -345,8 +355,8 @@ fn needs_format(media: &[u8], sizes: &[u32], file: usize) -> bool
 // The TRIMs of a format, as many as the budget pays for. The number needed comes back.
 fn format_files(media: &mut [u8], sizes: &mut [u32], budget: usize) -> usize
     requires { ⌜ (length (now media) ≡ mediaBytes pagesPerFile) × (length (now sizes) ≡ files) ⌝ }
-    ensures { λ r. ⌜ Spent pagesPerFile budget (mediaOf (now (media .entry)) (now (sizes .entry))) 0 r
-        (formatPlan pagesPerFile (mediaOf (now (media .entry)) (now (sizes .entry)))) (mediaOf (now (media .exit)) (now (sizes .exit))) ⌝ }
+    ensures { λ r. ⌜ Spent pagesPerFile budget (mediaAtEntry media sizes) 0 r
+        (formatPlan pagesPerFile (mediaAtEntry media sizes)) (mediaAtExit media sizes) ⌝ }
 {
     let mut needed = 0;
     let mut f = 0;
@@ -361,11 +371,11 @@ fn format_files(media: &mut [u8], sizes: &mut [u32], budget: usize) -> usize
 // Format: empties all files, by TRIM to 0. The device is down after it, done or cut. Of the state that comes in only the length is
 // looked at.
 pub fn format(media: &mut [u8], sizes: &mut [u32], state: &mut [u8], budget: usize) -> Answer
-    ensures { λ r. ⌜ ((frames : List ℕ) → give (coded r) (lent (mediaOf (now (media .exit)) (now (sizes .exit))) frames (now (state .exit)))
-        ≡ onBytes (format pagesPerFile budget) (lent (mediaOf (now (media .entry)) (now (sizes .entry))) frames (now (state .entry)))) ⌝ }
+    ensures { λ r. ⌜ ((frames : List ℕ) → give (coded r) (borrowed (mediaAtExit media sizes) frames (now (state .exit)))
+        ≡ onBytes (format pagesPerFile budget) (borrowed (mediaAtEntry media sizes) frames (now (state .entry)))) ⌝ }
 {
-    let admission = cache_state::admit_format(media.len(), sizes, state);
-    match admission {
+    let admitted = admission::admit_format(media.len(), sizes, state);
+    match admitted {
         Answer::Refused(refusal) => Answer::Refused(refusal),
         Answer::Done(_) => {
             let trims = format_files(media, sizes, budget);

@@ -15,8 +15,8 @@ use Rattle.media.specs.Write.{mediaOf}
 use Rattle.scan.specs.Scan.{firstIndex}
 use Rattle.device.specs.declared.Slot.{Slot}
 use Rattle.device.specs.declared.CacheState.{CacheState}
-use Rattle.cache_state.specs.Tables.{slotTable, slotFor}
-use Rattle.cache_state.proofs.Pass.{slot-for}
+use Rattle.admission.specs.Tables.{slotTable, slotFor}
+use Rattle.admission.proofs.Pass.{slot-for}
 use Rattle.scan.proofs.Scan.{first-set}
 use Rattle.device.specs.Device.{Device, deviceOf, slotCount, freeSlot, usedSlot, isFree, holds, slotOf, isCached, firstFree}
 use Rattle.device.specs.Writing.{hasSlot, cachePage, patchPage, putPage, andMore, putPages}

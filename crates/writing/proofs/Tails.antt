@@ -14,7 +14,7 @@ use Rattle.device.specs.declared.CacheState.{CacheState}
 use Rattle.device.specs.declared.FileSizes.{FileSizes}
 use Rattle.device.specs.Device.{slotCount, holds, freeWhere, withSlots, withLogical, withFloor}
 use Rattle.device.specs.Sizes.{truncatedSizes}
-use Rattle.device.specs.Sound.{sizesIn}
+use Rattle.device.specs.Sound.{sizesBeside}
 use Rattle.device.specs.Truncating.{pagesFrom, withSizes}
 use Rattle.device.proofs.Device.{slot-gone, slot-stays}
 
@@ -35,6 +35,6 @@ module _ (f n : ℕ) (slots : List Slot) where
 -- slots, then sizes: c was the floor
 pub sizes-set : (s x y z : CacheState) (slots : List Slot) (f n l c : ℕ) (a : FileSizes) → c ≡ getD (s .floor) f 0
     → a ≡ truncatedSizes n (record { logical = l; floor = c; stored = 0 }) → x ≡ withSlots s slots → y ≡ withLogical x f (a .logical)
-    → z ≡ withFloor y f (a .floor) → z ≡ withSizes f (truncatedSizes n (sizesIn [] s f)) (withSlots s slots)
+    → z ≡ withFloor y f (a .floor) → z ≡ withSizes f (truncatedSizes n (sizesBeside [] s f)) (withSlots s slots)
 unfolding withSizes
 sizes-set s x y z slots f n l c a ec ea ex ey ez = rw (ez, ey, ex, ea, ec)

@@ -1,9 +1,9 @@
 // Write and truncate on the bytes of the cache state, and the truncate rule on the sizes of one file.
 //
 // What is written goes into cached pages, and the bytes of the state are changed in place; the media stays.
+use admission::TABLE;
 use answer::Answer;
 use answer::Refusal;
-use cache_state::TABLE;
 use device::FileSizes;
 use device::SLOTS;
 use device::Slot;
@@ -23,13 +23,14 @@ ghost use Rattle.scan.specs.Scan.{firstIndex};
 ghost use Rattle.device.specs.declared.CacheState.{CacheState};
 ghost use Rattle.device.specs.Device.{freeWhere, withLogical, withSlots, deviceOf, slotCount, framesBytes, frameStart, isFree, holds};
 ghost use Rattle.device.specs.Admission.{give};
-ghost use Rattle.device.specs.Sound.{sizesIn};
+ghost use Rattle.device.specs.Sound.{sizesBeside};
 ghost use Rattle.device.specs.Sizes.{truncatedSizes, sizesAnswer, sizesAfter};
 ghost use Rattle.device.specs.Writing.{hasSlot, blankPage, cachePage, putPage, putPages, write};
 ghost use Rattle.device.specs.Truncating.{pagesFrom, clearTail, withSizes, truncate};
 ghost use Rattle.state_bytes.specs.Encoding.{stateBytes, decode};
-ghost use Rattle.state_bytes.specs.InPlace.{lent, onBytes};
-ghost use Rattle.cache_state.specs.Tables.{slotTable};
+ghost use Rattle.state_bytes.specs.InPlace.{borrowed, onBytes};
+ghost use Rattle.admission.specs.Tables.{slotTable};
+ghost use Rattle.state_bytes.specs.Moments.{borrowedAtEntry, borrowedAtExit, decodedAtEntry, decodedAtExit};
 
 // The bytes are laid over the page frames from `at` on.
 fn patch_frames(frames: &mut [u8], at: usize, bytes: &[u8])
@@ -63,8 +64,10 @@ fn put_frame(frames: &mut [u8], k: usize, page: &[u8])
 // The page of the media from `from` on goes into the frame of slot k, with its first `count` bytes, those below the floor. Where that
 // is all of them, or none, the length is fixed, and the compiler keeps the page out of memory.
 fn fill_frame(media: &[u8], frames: &mut [u8], k: usize, from: usize, count: usize)
-    requires { ⌜ (length (now frames) ≡ framesBytes) × (k < slotCount) × (count ≤ pageBytes) × (from + pageBytes ≤ length (now media)) × (length (now media) < 2 ^ 32) ⌝ }
-    ensures { λ r. ⌜ now (frames .exit) ≡ overwrite (now (frames .entry)) (frameStart k) (overwrite blankPage 0 (part (now (media .entry)) from count)) ⌝ }
+    requires { ⌜ (length (now frames) ≡ framesBytes) × (k < slotCount) × (count ≤ pageBytes)
+        × (from + pageBytes ≤ length (now media)) × (length (now media) < 2 ^ 32) ⌝ }
+    ensures { λ r. ⌜ now (frames .exit) ≡ overwrite (now (frames .entry)) (frameStart k)
+        (overwrite blankPage 0 (part (now (media .entry)) from count)) ⌝ }
 {
     if count == PAGE_BYTES {
         let page = filled_page(&media[from..from + PAGE_BYTES]);
@@ -90,10 +93,11 @@ fn cache_page(
     k: usize,
     pages: usize,
 )
-    requires { ⌜ (fileBytes pages < 2 ^ 16) × (length (now media) ≡ mediaBytes pages) × (length (now frames) ≡ framesBytes) × (file < files) × (page < pages)
+    requires { ⌜ (fileBytes pages < 2 ^ 16) × (length (now media) ≡ mediaBytes pages) × (length (now frames) ≡ framesBytes)
+        × (file < files) × (page < pages)
         × (k < slotCount) × (k ≡ firstIndex isFree ((decode (now state)) .slots)) × (length (now state) ≡ stateBytes) ⌝ }
-    ensures { λ r. ⌜ ((stored : List ℕ) → deviceOf (mediaOf (now (media .entry)) stored) (now (frames .exit)) (decode (now (state .exit)))
-        ≡ cachePage pages file page (deviceOf (mediaOf (now (media .entry)) stored) (now (frames .entry)) (decode (now (state .entry))))) ⌝ }
+    ensures { λ r. ⌜ ((stored : List ℕ) → decodedAtExit media stored frames state
+        ≡ cachePage pages file page (decodedAtEntry media stored frames state)) ⌝ }
 {
     let floor = state_bytes::floor_at(state, file) as usize;
     let at = PAGE_BYTES * page;
@@ -121,18 +125,20 @@ fn put_page(
     k: usize,
     pages: usize,
 ) -> bool
-    requires { ⌜ (fileBytes pages < 2 ^ 16) × (length (now media) ≡ mediaBytes pages) × (length (now frames) ≡ framesBytes) × (file < files) × (page < pages)
-        × (offset + length (now bytes) ≤ pageBytes) × (k ≡ firstIndex (holds file page) ((decode (now state)) .slots)) × (length (now state) ≡ stateBytes) ⌝ }
+    requires { ⌜ (fileBytes pages < 2 ^ 16) × (length (now media) ≡ mediaBytes pages) × (length (now frames) ≡ framesBytes)
+        × (file < files) × (page < pages)
+        × (offset + length (now bytes) ≤ pageBytes) × (k ≡ firstIndex (holds file page) ((decode (now state)) .slots))
+        × (length (now state) ≡ stateBytes) ⌝ }
     ensures { λ r. ⌜ (r ≡ hasSlot (deviceOf (mediaOf [] []) [] (decode (now (state .entry)))) file page)
-        × ((stored : List ℕ) → deviceOf (mediaOf (now (media .entry)) stored) (now (frames .exit)) (decode (now (state .exit)))
-        ≡ cond r (putPage pages file page offset (now (bytes .entry)) (deviceOf (mediaOf (now (media .entry)) stored) (now (frames .entry)) (decode (now (state .entry)))))
-        (deviceOf (mediaOf (now (media .entry)) stored) (now (frames .entry)) (decode (now (state .entry))))) ⌝ }
+        × ((stored : List ℕ) → decodedAtExit media stored frames state
+        ≡ cond r (putPage pages file page offset (now (bytes .entry)) (decodedAtEntry media stored frames state))
+        (decodedAtEntry media stored frames state)) ⌝ }
 {
     if k < SLOTS {
         patch_frames(frames, PAGE_BYTES * k + offset, bytes);
         return true;
     }
-    let j = cache_state::first_free(state);
+    let j = admission::first_free(state);
     if j < SLOTS {
         cache_page(media, frames, state, file, page, j, pages);
         patch_frames(frames, PAGE_BYTES * j + offset, bytes);
@@ -147,22 +153,23 @@ fn put_pages(
     media: &[u8],
     frames: &mut [u8],
     state: &mut [u8],
-    slots: &[u8; TABLE],
+    table: &[u8; TABLE],
     file: usize,
     position: usize,
     bytes: &[u8],
 ) -> usize
     requires { ⌜ (length (now media) ≡ mediaBytes pagesPerFile) × (length (now frames) ≡ framesBytes) × (file < files)
-        × (position + length (now bytes) ≤ fileBytes pagesPerFile) × (now slots ≡ slotTable pagesPerFile ((decode (now state)) .slots)) × (length (now state) ≡ stateBytes) ⌝ }
-    ensures { λ r. ⌜ ((stored : List ℕ) → record { device = deviceOf (mediaOf (now (media .entry)) stored) (now (frames .exit)) (decode (now (state .exit))); count = r }
-        ≡ putPages pagesPerFile file pagesPerFile position (now (bytes .entry)) (deviceOf (mediaOf (now (media .entry)) stored) (now (frames .entry)) (decode (now (state .entry))))) ⌝ }
+        × (position + length (now bytes) ≤ fileBytes pagesPerFile)
+        × (now table ≡ slotTable pagesPerFile ((decode (now state)) .slots)) × (length (now state) ≡ stateBytes) ⌝ }
+    ensures { λ r. ⌜ ((stored : List ℕ) → record { device = decodedAtExit media stored frames state; count = r }
+        ≡ putPages pagesPerFile file pagesPerFile position (now (bytes .entry)) (decodedAtEntry media stored frames state)) ⌝ }
 {
     let mut from = 0;
     while from < bytes.len() {
         let page = (position + from) / PAGE_BYTES;
         let offset = (position + from) % PAGE_BYTES;
         let to = from + number::min(PAGE_BYTES - offset, bytes.len() - from);
-        let k = cache_state::slot_of(slots, file, page);
+        let k = admission::slot_of(table, file, page);
         let piece = &bytes[from..to];
         if put_page(
             media,
@@ -196,7 +203,8 @@ fn sum_fits(position: usize, n: usize, limit: usize) -> bool
 // File `file` is at least n bytes long.
 fn grow(state: &mut [u8], file: usize, n: usize)
     requires { ⌜ (file < files) × (n < 2 ^ 32) × (length (now state) ≡ stateBytes) ⌝ }
-    ensures { λ r. ⌜ decode (now (state .exit)) ≡ withLogical (decode (now (state .entry))) file (max (getD ((decode (now (state .entry))) .logical) file 0) n) ⌝ }
+    ensures { λ r. ⌜ decode (now (state .exit))
+        ≡ withLogical (decode (now (state .entry))) file (max (getD ((decode (now (state .entry))) .logical) file 0) n) ⌝ }
 {
     let logical = state_bytes::logical_at(state, file) as usize;
     state_bytes::set_logical(state, file, number::max(logical, n) as u32);
@@ -213,27 +221,27 @@ pub fn write(
     position: usize,
     bytes: &[u8],
 ) -> Answer
-    ensures { λ r. ⌜ give (coded r) (lent (mediaOf (now (media .entry)) (now (sizes .entry))) (now (frames .exit)) (now (state .exit)))
-        ≡ onBytes (write pagesPerFile file position (now (bytes .entry))) (lent (mediaOf (now (media .entry)) (now (sizes .entry))) (now (frames .entry)) (now (state .entry))) ⌝ }
+    ensures { λ r. ⌜ give (coded r) (borrowedAtExit media sizes frames state)
+        ≡ onBytes (write pagesPerFile file position (now (bytes .entry))) (borrowedAtEntry media sizes frames state) ⌝ }
 {
     let in_range = sum_fits(position, bytes.len(), PAGE_BYTES * PAGES_PER_FILE);
-    let mut slots = [0u8; TABLE];
-    let admission = cache_state::admit(
+    let mut table = [0u8; TABLE];
+    let admitted = admission::admit(
         media.len(),
         sizes,
         frames.len(),
         state,
         file,
         in_range,
-        &mut slots,
+        &mut table,
     );
-    match admission {
+    match admitted {
         Answer::Refused(refusal) => Answer::Refused(refusal),
         Answer::Done(_) => {
             if bytes.len() == 0 {
                 return Answer::Done(0);
             }
-            let count = put_pages(media, frames, state, &slots, file, position, bytes);
+            let count = put_pages(media, frames, state, &table, file, position, bytes);
             if count == 0 {
                 return Answer::Refused(Refusal::NoRoom);
             }
@@ -264,7 +272,8 @@ fn truncated_sizes(s: FileSizes, n: u32) -> FileSizes
 // The state after a truncate of a file to n bytes. It has no part in the stored size.
 fn truncate_state(state: &mut [u8], file: usize, n: usize)
     requires { ⌜ (file < files) × (n < 2 ^ 32) × (length (now state) ≡ stateBytes) ⌝ }
-    ensures { λ r. ⌜ decode (now (state .exit)) ≡ withSizes file (truncatedSizes n (sizesIn [] (decode (now (state .entry))) file))
+    ensures { λ r. ⌜ decode (now (state .exit))
+        ≡ withSizes file (truncatedSizes n (sizesBeside [] (decode (now (state .entry))) file))
         (withSlots (decode (now (state .entry))) (map (freeWhere (pagesFrom file n)) ((decode (now (state .entry))) .slots))) ⌝ }
 {
     let sizes = FileSizes {
@@ -273,28 +282,29 @@ fn truncate_state(state: &mut [u8], file: usize, n: usize)
         stored: 0,
     };
     let after = truncated_sizes(sizes, n as u32);
-    cache_state::free_pages_from(state, file, n);
+    admission::free_pages_from(state, file, n);
     state_bytes::set_logical(state, file, after.logical);
     state_bytes::set_floor(state, file, after.floor);
 }
 
 // The slot of the page that n falls inside, or SLOTS where n begins a page: pages that begin at or past n are freed.
-fn tail_slot(slots: &[u8; TABLE], file: usize, n: usize) -> usize
+fn tail_slot(table: &[u8; TABLE], file: usize, n: usize) -> usize
     requires { ⌜ (file < files) × (n ≤ fileBytes pagesPerFile) ⌝ }
-    ensures { λ r. ⌜ ((c : CacheState) → length (c .slots) ≡ slotCount → now (slots .entry) ≡ slotTable pagesPerFile (c .slots)
+    ensures { λ r. ⌜ ((c : CacheState) → length (c .slots) ≡ slotCount → now (table .entry) ≡ slotTable pagesPerFile (c .slots)
         → r ≡ firstIndex (holds file (n / pageBytes)) (map (freeWhere (pagesFrom file n)) (c .slots))) ⌝ }
 {
     if n % PAGE_BYTES == 0 {
         return SLOTS;
     }
-    cache_state::slot_of(slots, file, n / PAGE_BYTES)
+    admission::slot_of(table, file, n / PAGE_BYTES)
 }
 
 // The page that n falls inside, in slot k where it is cached, gets zeros from n on.
 fn clear_tail(frames: &mut [u8], k: usize, n: usize)
     requires { ⌜ length (now frames) ≡ framesBytes ⌝ }
     ensures { λ r. ⌜ ((bytes stored : List ℕ) (c : CacheState) (f : ℕ) → k ≡ firstIndex (holds f (n / pageBytes)) (c .slots)
-        → deviceOf (mediaOf bytes stored) (now (frames .exit)) c ≡ clearTail f n (deviceOf (mediaOf bytes stored) (now (frames .entry)) c)) ⌝ }
+        → deviceOf (mediaOf bytes stored) (now (frames .exit)) c
+        ≡ clearTail f n (deviceOf (mediaOf bytes stored) (now (frames .entry)) c)) ⌝ }
 {
     if k < SLOTS {
         let from = PAGE_BYTES * k + n % PAGE_BYTES;
@@ -312,25 +322,25 @@ pub fn truncate(
     file: usize,
     n: usize,
 ) -> Answer
-    ensures { λ r. ⌜ give (coded r) (lent (mediaOf (now (media .entry)) (now (sizes .entry))) (now (frames .exit)) (now (state .exit)))
-        ≡ onBytes (truncate pagesPerFile file n) (lent (mediaOf (now (media .entry)) (now (sizes .entry))) (now (frames .entry)) (now (state .entry))) ⌝ }
+    ensures { λ r. ⌜ give (coded r) (borrowedAtExit media sizes frames state)
+        ≡ onBytes (truncate pagesPerFile file n) (borrowedAtEntry media sizes frames state) ⌝ }
 {
     let greatest = PAGE_BYTES * PAGES_PER_FILE;
-    let mut slots = [0u8; TABLE];
-    let admission = cache_state::admit(
+    let mut table = [0u8; TABLE];
+    let admitted = admission::admit(
         media.len(),
         sizes,
         frames.len(),
         state,
         file,
         n <= greatest,
-        &mut slots,
+        &mut table,
     );
-    match admission {
+    match admitted {
         Answer::Refused(refusal) => Answer::Refused(refusal),
         Answer::Done(_) => {
             truncate_state(state, file, n);
-            clear_tail(frames, tail_slot(&slots, file, n), n);
+            clear_tail(frames, tail_slot(&table, file, n), n);
             Answer::Done(0)
         }
     }
@@ -341,7 +351,7 @@ pub fn sizes_answer(s: FileSizes, n: usize, greatest: u32) -> Answer
     ensures { λ r. ⌜ coded r ≡ sizesAnswer greatest n s ⌝ }
 {
     let limit = greatest as usize;
-    if cache_state::in_order(s, limit) {
+    if admission::in_order(s, limit) {
         if n <= limit {
             return Answer::Done(0);
         }
@@ -363,7 +373,8 @@ pub fn sizes_after(s: FileSizes, n: usize, greatest: u32) -> FileSizes
 
 // The truncate rule on a record that is borrowed to be altered, told the greatest file size.
 pub fn truncate_sizes(s: &mut FileSizes, n: usize, greatest: u32) -> Answer
-    ensures { λ r. ⌜ (coded r ≡ sizesAnswer greatest n (now (s .entry))) × (now (s .exit) ≡ sizesAfter greatest n (now (s .entry))) ⌝ }
+    ensures { λ r. ⌜ (coded r ≡ sizesAnswer greatest n (now (s .entry)))
+        × (now (s .exit) ≡ sizesAfter greatest n (now (s .entry))) ⌝ }
 {
     let old = *s;
     *s = sizes_after(old, n, greatest);

@@ -16,8 +16,8 @@ use Rattle.media.proofs.trim_in.Tie as tie
 admit-requires : tie.Need-admit-requires
 admit-requires c κs = search needs
 
-enum-known-admission : tie.Need-enum-known-admission
-enum-known-admission c = search needs
+enum-known-admitted : tie.Need-enum-known-admitted
+enum-known-admitted c = search needs
 
 enum-told : tie.Need-enum-told
 enum-told c = search needs
@@ -66,8 +66,8 @@ same-length-4 c = search needs
 returns-2 : tie.Need-returns-2
 returns-2 c =
     let b = c .before .before .before in
-    let r = c .before .admission .given .0 .0 in
-    let e = trim-refused _ _ _ _ r (coded-of (b .admit .result) (Refused r) _ (c .before .admission .given .1) (b .admit .ensures)) in
+    let r = c .before .admitted .given .0 .0 in
+    let e = trim-refused _ _ _ _ r (coded-of (b .admit .result) (Refused r) _ (c .before .admitted .given .1) (b .admit .ensures)) in
     (e, trim-unchanged _ _ _ _ r e)
 
 same-length-5 : tie.Need-same-length-5
@@ -89,7 +89,7 @@ trim-in-spec =
     tie.close
     (tie.spec
     admit-requires
-    enum-known-admission
+    enum-known-admitted
     enum-told
     cast-size
     mul-if1

@@ -11,8 +11,8 @@ use Rattle.media.proofs.write_size_in.Tie as tie
 admit-requires : tie.Need-admit-requires
 admit-requires c κs = search needs
 
-enum-known-admission : tie.Need-enum-known-admission
-enum-known-admission c = search needs
+enum-known-admitted : tie.Need-enum-known-admitted
+enum-known-admitted c = search needs
 
 enum-told : tie.Need-enum-told
 enum-told c = search needs
@@ -38,8 +38,8 @@ same-length c = search needs
 returns : tie.Need-returns
 returns c =
     let b = c .before .before .before in
-    let r = c .before .admission .given .0 .0 in
-    let e = coded-of (b .admit .result) (Refused r) _ (c .before .admission .given .1) (b .admit .ensures) in
+    let r = c .before .admitted .given .0 .0 in
+    let e = coded-of (b .admit .result) (Refused r) _ (c .before .admitted .given .1) (b .admit .ensures) in
     (e, size-unchanged _ _ _ _ r e)
 
 same-length-2 : tie.Need-same-length-2
@@ -53,7 +53,7 @@ write-size-in-spec =
     tie.close
     (tie.spec
     admit-requires
-    enum-known-admission
+    enum-known-admitted
     enum-told
     cast-sizes
     mul-sizes

@@ -6,15 +6,15 @@ use borrow.Author.Needs.{needs}
 use Rattle.memory.proofs.Cases.{split-lt}
 use Rattle.device.specs.Device.{slotCount}
 use Rattle.media.specs.Geometry.{pagesPerFile}
-use Rattle.cache_state.specs.Tables.{slotFor}
+use Rattle.admission.specs.Tables.{slotFor}
 use Rattle.reading.proofs.cached_from.Statement.{statement}
 use Rattle.reading.proofs.cached_from.Tie as tie
 
 abbrev Inv-loop : tie.InvT-loop
-Inv-loop slots file page last p₀ p = (page ≤ p) × (p ≤ last) × ((q : ℕ) → page ≤ q → q < p → slotCount ≤ slotFor pagesPerFile slots file q)
+Inv-loop table file page end p₀ p = (page ≤ p) × (p ≤ end) × ((q : ℕ) → page ≤ q → q < p → slotCount ≤ slotFor pagesPerFile table file q)
 
 abbrev μ-loop : tie.MeasureT-loop
-μ-loop slots file page last p₀ p = last - p
+μ-loop table file page end p₀ p = end - p
 
 loop-holds : tie.Need-loop-holds Inv-loop μ-loop
 loop-holds c = (search needs, search needs, λ q h k. omega arith)

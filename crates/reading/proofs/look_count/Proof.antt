@@ -6,20 +6,20 @@ use Rattle.media.specs.Geometry.{pagesPerFile}
 use Rattle.media.specs.Write.{mediaOf}
 use Rattle.device.specs.Looking.{toPageEnd}
 use Rattle.device.proofs.Looking.{count-done}
-use Rattle.state_bytes.specs.InPlace.{Lent, lent, deviceIn}
-use Rattle.state_bytes.proofs.OnBytes.{lent-passed, lent-refused, count-refused-on, count-on}
+use Rattle.state_bytes.specs.InPlace.{Borrowed, borrowed, deviceIn}
+use Rattle.state_bytes.proofs.OnBytes.{borrowed-passed, borrowed-refused, count-refused-on, count-on}
 use Rattle.reading.proofs.look_count.Statement.{statement}
 use Rattle.reading.proofs.look_count.Tie as tie
 
--- the device at the start, as it is lent
-abbrev came : tie.Start → Lent
-came c = lent (mediaOf (c .args .media .now) (c .args .sizes .now)) (c .args .frames .now) (c .args .state .now)
+-- the device at the start, as it is borrowed
+abbrev came : tie.Start → Borrowed
+came c = borrowed (mediaOf (c .args .media .now) (c .args .sizes .now)) (c .args .frames .now) (c .args .state .now)
 
 admit-at-requires : tie.Need-admit-at-requires
 admit-at-requires c κs = search needs
 
-enum-known-admission : tie.Need-enum-known-admission
-enum-known-admission c = search needs
+enum-known-admitted : tie.Need-enum-known-admitted
+enum-known-admitted c = search needs
 
 enum-told : tie.Need-enum-told
 enum-told c = search needs
@@ -37,8 +37,8 @@ returns : tie.Need-returns
 returns c =
     let b = c .before .before .before in
     let s = b .before .before .before .before .before .before in
-    let x = c .before .admission .given .0 .0 in
-    count-refused-on pagesPerFile (s .args .file) (s .args .position) (came s) x (lent-refused pagesPerFile (came s) _ _ (b .admit-at .result) (b .admit-at .ensures .0) x (c .before .admission .given .1))
+    let x = c .before .admitted .given .0 .0 in
+    count-refused-on pagesPerFile (s .args .file) (s .args .position) (came s) x (borrowed-refused pagesPerFile (came s) _ _ (b .admit-at .result) (b .admit-at .ensures .0) x (c .before .admitted .given .1))
 
 returns-2 : tie.Need-returns-2
 returns-2 c =
@@ -46,7 +46,7 @@ returns-2 c =
     let t = l .before in
     let b = t .before .before in
     let s = b .before .before .before .before .before .before in
-    let ok = lent-passed pagesPerFile (came s) _ _ (b .admit-at .result) (b .admit-at .ensures .0) _ (t .enum-told .given .1) in
+    let ok = borrowed-passed pagesPerFile (came s) _ _ (b .admit-at .result) (b .admit-at .ensures .0) _ (t .enum-told .given .1) in
     count-done pagesPerFile (s .args .file) (s .args .position) (deviceIn (came s)) _ (ok .1)
     (c .to-page-end .ensures ∙ ap (λ (n : ℕ). toPageEnd (s .args .position) n) (l .logical-at .ensures))
     ∙ count-on pagesPerFile (s .args .file) (s .args .position) (came s) (ok .0)
@@ -56,7 +56,7 @@ look-count-spec =
     tie.close
     (tie.spec
     admit-at-requires
-    enum-known-admission
+    enum-known-admitted
     enum-told
     logical-at-requires
     cast-logical

@@ -16,28 +16,28 @@ use Rattle.device.specs.Looking.{toPageEnd}
 use Rattle.device.proofs.Admission.{Admitted}
 use Rattle.device.proofs.Looking.{span-cached, span-media}
 use Rattle.state_bytes.specs.Encoding.{stateBytes, decode}
-use Rattle.state_bytes.specs.InPlace.{Lent, lent, deviceIn}
+use Rattle.state_bytes.specs.InPlace.{Borrowed, borrowed, deviceIn}
 use Rattle.state_bytes.proofs.InPlace.{shaped}
-use Rattle.state_bytes.proofs.OnBytes.{lent-passed, lent-ready, lent-refused, span-refused-on, span-on}
-use Rattle.cache_state.proofs.Soundness.{table-is}
+use Rattle.state_bytes.proofs.OnBytes.{borrowed-passed, borrowed-ready, borrowed-refused, span-refused-on, span-on}
+use Rattle.admission.proofs.Soundness.{table-is}
 use Rattle.reading.proofs.Slots.{slot-sound}
 use Rattle.reading.proofs.look_span.Statement.{statement}
 use Rattle.reading.proofs.look_span.Tie as tie
 
--- the device at the start, as it is lent
-abbrev came : tie.Start → Lent
-came c = lent (mediaOf (c .args .media .now) (c .args .sizes .now)) (c .args .frames .now) (c .args .state .now)
+-- the device at the start, as it is borrowed
+abbrev came : tie.Start → Borrowed
+came c = borrowed (mediaOf (c .args .media .now) (c .args .sizes .now)) (c .args .frames .now) (c .args .state .now)
 
 abbrev start : tie.After-enum-told2 → tie.Start
 start c = c .before .before .before .before .before .before .before .before
 
 -- what `admit_at` has tested
 ready : (c : tie.After-enum-told2) → Admitted pagesPerFile (deviceIn (came (start c))) (start c .args .file) (leb (start c .args .position) (fileBytes pagesPerFile))
-ready c = lent-ready pagesPerFile (came (start c)) _ _ (c .before .before .admit-at .result) (c .before .before .admit-at .ensures .0) _ (c .enum-told2 .given .1)
+ready c = borrowed-ready pagesPerFile (came (start c)) _ _ (c .before .before .admit-at .result) (c .before .before .admit-at .ensures .0) _ (c .enum-told2 .given .1)
 
 admitted : (c : tie.After-enum-told2) → (length (start c .args .state .now) ≡ stateBytes)
     × (passed (fileTests pagesPerFile (deviceIn (came (start c))) (start c .args .file) (leb (start c .args .position) (fileBytes pagesPerFile))) ≡ true)
-admitted c = lent-passed pagesPerFile (came (start c)) _ _ (c .before .before .admit-at .result) (c .before .before .admit-at .ensures .0) _ (c .enum-told2 .given .1)
+admitted c = borrowed-passed pagesPerFile (came (start c)) _ _ (c .before .before .admit-at .result) (c .before .before .admit-at .ensures .0) _ (c .enum-told2 .given .1)
 
 in-limits : (c : tie.After-enum-told2) → start c .args .position ≤ fileBytes pagesPerFile
 in-limits c = leb-true _ _ (ready c .in-range)
@@ -113,7 +113,7 @@ returns-2 c =
     let s = b .before .before .before .before .before .before in
     let x = c .enum-told .given .0 .0 in
     span-refused-on pagesPerFile (s .args .file) (s .args .position) (came s) x
-    (lent-refused pagesPerFile (came s) _ _ (b .admit-at .result) (b .admit-at .ensures .0) x (c .enum-told .given .1))
+    (borrowed-refused pagesPerFile (came s) _ _ (b .admit-at .result) (b .admit-at .ensures .0) x (c .enum-told .given .1))
 
 returns-3 : tie.Need-returns-3
 unfolding fileStart

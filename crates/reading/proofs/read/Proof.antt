@@ -11,23 +11,23 @@ use Rattle.device.proofs.Admission.{Admitted}
 use Rattle.device.proofs.Sound.{sound-sizes}
 use Rattle.device.proofs.Reading.{read-done}
 use Rattle.state_bytes.specs.Encoding.{decode}
-use Rattle.state_bytes.specs.InPlace.{Lent, lent, deviceIn}
-use Rattle.state_bytes.proofs.OnBytes.{lent-passed, lent-ready, lent-refused, read-refused-on, read-on}
-use Rattle.cache_state.specs.Tables.{slotTable}
-use Rattle.cache_state.proofs.Soundness.{table-is}
+use Rattle.state_bytes.specs.InPlace.{Borrowed, borrowed, deviceIn}
+use Rattle.state_bytes.proofs.OnBytes.{borrowed-passed, borrowed-ready, borrowed-refused, read-refused-on, read-on}
+use Rattle.admission.specs.Tables.{slotTable}
+use Rattle.admission.proofs.Soundness.{table-is}
 use Rattle.reading.proofs.read.Statement.{statement}
 use Rattle.reading.proofs.read.Tie as tie
 
--- the device at the start, as it is lent
-abbrev came : tie.Start → Lent
-came c = lent (mediaOf (c .args .media .now) (c .args .sizes .now)) (c .args .frames .now) (c .args .state .now)
+-- the device at the start, as it is borrowed
+abbrev came : tie.Start → Borrowed
+came c = borrowed (mediaOf (c .args .media .now) (c .args .sizes .now)) (c .args .frames .now) (c .args .state .now)
 
 abbrev start : tie.After-enum-told → tie.Start
 start c = c .before .before .before .before .before .before .before .before .before
 
 -- what `admit_at` has tested
 ready : (c : tie.After-enum-told) → Admitted pagesPerFile (deviceIn (came (start c))) (start c .args .file) (leb (start c .args .position) (fileBytes pagesPerFile))
-ready c = lent-ready pagesPerFile (came (start c)) _ _ (c .before .before .admit-at .result) (c .before .before .admit-at .ensures .0) _ (c .enum-told .given .1)
+ready c = borrowed-ready pagesPerFile (came (start c)) _ _ (c .before .before .admit-at .result) (c .before .before .admit-at .ensures .0) _ (c .enum-told .given .1)
 
 -- the table of slots that it left
 table : (c : tie.After-enum-told) → c .before .before .admit-at .last .1 .1 .1 .1 .1 .1 .0 ≡ slotTable pagesPerFile (decode (start c .args .state .now) .slots)
@@ -36,8 +36,8 @@ table c = table-is (c .before .before .admit-at .result) _ (decode (start c .arg
 admit-at-requires : tie.Need-admit-at-requires
 admit-at-requires c κs = search needs
 
-enum-known-admission : tie.Need-enum-known-admission
-enum-known-admission c = search needs
+enum-known-admitted : tie.Need-enum-known-admitted
+enum-known-admitted c = search needs
 
 enum-told : tie.Need-enum-told
 enum-told c = search needs
@@ -72,9 +72,9 @@ returns : tie.Need-returns
 returns c =
     let b = c .before .before .before in
     let s = b .before .before .before .before .before .before .before in
-    let x = c .before .admission .given .0 .0 in
+    let x = c .before .admitted .given .0 .0 in
     read-refused-on pagesPerFile (s .args .file) (s .args .position) (came s) x
-    (lent-refused pagesPerFile (came s) _ _ (b .admit-at .result) (b .admit-at .ensures .0) x (c .before .admission .given .1)) (s .args .buffer .now)
+    (borrowed-refused pagesPerFile (came s) _ _ (b .admit-at .result) (b .admit-at .ensures .0) x (c .before .admitted .given .1)) (s .args .buffer .now)
 
 same-length : tie.Need-same-length
 same-length c = search needs
@@ -87,7 +87,7 @@ returns-2 c =
     let t = f .before .before in
     let s = start t in
     let b = t .before .before in
-    let ok = lent-passed pagesPerFile (came s) _ _ (b .admit-at .result) (b .admit-at .ensures .0) _ (t .enum-told .given .1) in
+    let ok = borrowed-passed pagesPerFile (came s) _ _ (b .admit-at .result) (b .admit-at .ensures .0) _ (t .enum-told .given .1) in
     read-done pagesPerFile (s .args .file) (s .args .position) (s .args .buffer .now) (deviceIn (came s)) (n .min .result) _ (ok .1)
     (omega arith) (p .read-pages .ensures (s .args .sizes .now) (decode (s .args .state .now)) (table t) (f .floor-at .ensures))
     ∙ read-on pagesPerFile (s .args .file) (s .args .position) (came s) (ok .0) (s .args .buffer .now)
@@ -97,7 +97,7 @@ read-spec =
     tie.close
     (tie.spec
     admit-at-requires
-    enum-known-admission
+    enum-known-admitted
     enum-told
     logical-at-requires
     cast-logical

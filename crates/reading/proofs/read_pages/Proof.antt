@@ -15,30 +15,30 @@ use Rattle.device.specs.declared.CacheState.{CacheState}
 use Rattle.device.specs.Device.{deviceOf, slotCount, holds}
 use Rattle.device.specs.Current.{currentBytes}
 use Rattle.device.proofs.Reading.{read-step}
-use Rattle.cache_state.specs.Tables.{slotTable, slotFor}
-use Rattle.cache_state.proofs.Pass.{slot-for}
+use Rattle.admission.specs.Tables.{slotTable, slotFor}
+use Rattle.admission.proofs.Pass.{slot-for}
 use Rattle.reading.proofs.Stored.{read-to}
 use Rattle.reading.proofs.read_pages.Statement.{statement}
 use Rattle.reading.proofs.read_pages.Tie as tie
 
 abbrev Inv-loop : tie.InvT-loop
-Inv-loop media frames slots floor file position count buffer₀ pages i₀ buffer i = ((stored : List ℕ) (c : CacheState) → slots ≡ slotTable pagesPerFile (c .slots) → floor ≡ getD (c .floor) file 0
+Inv-loop media frames table floor file position count buffer₀ end-page i₀ buffer i = ((stored : List ℕ) (c : CacheState) → table ≡ slotTable pagesPerFile (c .slots) → floor ≡ getD (c .floor) file 0
     → buffer ≡ overwrite buffer₀ 0 (currentBytes pagesPerFile (deviceOf (mediaOf media stored) frames c) file position i)) × (i ≤ count) × (length buffer ≡ length buffer₀)
 
 abbrev μ-loop : tie.MeasureT-loop
-μ-loop media frames slots floor file position count buffer₀ pages i₀ buffer i = count - i
+μ-loop media frames table floor file position count buffer₀ end-page i₀ buffer i = count - i
 
-add-pages : tie.Need-add-pages Inv-loop μ-loop
-add-pages c = search needs
+add-end-page : tie.Need-add-end-page Inv-loop μ-loop
+add-end-page c = search needs
 
-add-pages-2 : tie.Need-add-pages-2 Inv-loop μ-loop
-add-pages-2 c = search needs
+add-end-page-2 : tie.Need-add-end-page-2 Inv-loop μ-loop
+add-end-page-2 c = search needs
 
-sub-pages : tie.Need-sub-pages Inv-loop μ-loop
-sub-pages c = search needs
+sub-end-page : tie.Need-sub-end-page Inv-loop μ-loop
+sub-end-page c = search needs
 
 loop-holds : tie.Need-loop-holds Inv-loop μ-loop
-loop-holds c = (λ stored d e-slots e-floor. sym (overwrite-none _ 0), search needs, search needs)
+loop-holds c = (λ stored d e-table e-floor. sym (overwrite-none _ 0), search needs, search needs)
 
 add-at : tie.Need-add-at Inv-loop μ-loop
 add-at c = search needs
@@ -84,9 +84,9 @@ loop-again c =
     let page = (a .position + i) / pageBytes in
     let left = p .read-frame .last .1 .1 .1 .0 in
     let fits : i + n .min .result ≤ length (l .loop .buffer) = omega arith in (
-      λ stored d e-slots e-floor.
-          let e-k = k .slot-of .ensures ∙ slot-for (d .slots) _ (a .file) page e-slots (omega arith) (omega arith) in
-          read-step pagesPerFile (deviceOf (mediaOf (a .media .now) stored) (a .frames .now) d) (a .file) (a .buffer .now) (l .loop .buffer) left (a .position) i (n .min .result) (l .loop .inv .0 stored d e-slots e-floor) (p .read-frame .ensures (mediaOf (a .media .now) stored) d (a .file) e-k) fits,
+      λ stored d e-table e-floor.
+          let e-k = k .slot-of .ensures ∙ slot-for (d .slots) _ (a .file) page e-table (omega arith) (omega arith) in
+          read-step pagesPerFile (deviceOf (mediaOf (a .media .now) stored) (a .frames .now) d) (a .file) (a .buffer .now) (l .loop .buffer) left (a .position) i (n .min .result) (l .loop .inv .0 stored d e-table e-floor) (p .read-frame .ensures (mediaOf (a .media .now) stored) d (a .file) e-k) fits,
       omega arith,
       length-put i (i + n .min .result) (l .loop .buffer) left (omega (arith, p .read-frame .kept)) (omega arith) fits ∙ l .loop .inv .2,
     )
@@ -136,15 +136,15 @@ loop-again-2 c =
     let fits : to ≤ length (l .loop .buffer) = omega arith in
     let more : i < to = omega (arith, f .cached-from .ensures .0) in
     let lp : length (part (l .loop .buffer) i (to - i)) ≡ to - i = length-part (l .loop .buffer) i (to - i) (omega arith) in (
-      λ stored d e-slots e-floor.
+      λ stored d e-table e-floor.
           let none : (q : ℕ) → at / pageBytes ≤ q → pageBytes * q < at + length (part (l .loop .buffer) i (to - i)) → slotCount ≤ firstIndex (holds (a .file) q) (d .slots) =
           λ q lo hi.
           let below : q < f .cached-from .result = omega arith in
-          let e-q = slot-for (d .slots) _ (a .file) q e-slots (omega arith) (omega (arith, f .cached-from .ensures .1)) in
+          let e-q = slot-for (d .slots) _ (a .file) q e-table (omega arith) (omega (arith, f .cached-from .ensures .1)) in
           split-lt (at / pageBytes) q
           (λ h. omega (arith, e-q, f .cached-from .ensures .2 q (omega arith) below))
-          (λ h. let e : at / pageBytes ≡ q = omega arith in let z : slotCount ≤ slotFor pagesPerFile (a .slots .now) (a .file) (at / pageBytes) = omega (arith, k .slot-of .ensures) in omega (arith, e-q, rw e at z)) in
-          read-to pagesPerFile (deviceOf (mediaOf (a .media .now) stored) (a .frames .now) d) (a .file) (a .buffer .now) (l .loop .buffer) left (a .position) i to (omega arith) (l .loop .inv .0 stored d e-slots e-floor) (p .read-stored .ensures stored (a .frames .now) d none e-floor) fits,
+          (λ h. let e : at / pageBytes ≡ q = omega arith in let z : slotCount ≤ slotFor pagesPerFile (a .table .now) (a .file) (at / pageBytes) = omega (arith, k .slot-of .ensures) in omega (arith, e-q, rw e at z)) in
+          read-to pagesPerFile (deviceOf (mediaOf (a .media .now) stored) (a .frames .now) d) (a .file) (a .buffer .now) (l .loop .buffer) left (a .position) i to (omega arith) (l .loop .inv .0 stored d e-table e-floor) (p .read-stored .ensures stored (a .frames .now) d none e-floor) fits,
       omega arith,
       length-put i to (l .loop .buffer) left (omega (arith, p .read-stored .kept)) (omega arith) fits ∙ l .loop .inv .2,
     )
@@ -157,7 +157,7 @@ returns c =
     let l = c .before in
     let a = l .before .before .before .before .args in
     let e : l .loop .i ≡ a .count = omega arith in
-    λ stored d e-slots e-floor. l .loop .inv .0 stored d e-slots e-floor ∙ rw e
+    λ stored d e-table e-floor. l .loop .inv .0 stored d e-table e-floor ∙ rw e
 
 pub read-pages-spec : {M : Type 1} → statement M
 read-pages-spec =
@@ -165,9 +165,9 @@ read-pages-spec =
     (tie.spec
     Inv-loop
     μ-loop
-    add-pages
-    add-pages-2
-    sub-pages
+    add-end-page
+    add-end-page-2
+    sub-end-page
     loop-holds
     add-at
     slot-of-requires

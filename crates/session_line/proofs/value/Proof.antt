@@ -19,22 +19,22 @@ loop-holds c = valued-none _
 mul-n : tie.Need-mul-n Inv-loop μ-loop
 mul-n c = let b = valued-small _ _ _ (c .before .loop .inv) (omega arith) in omega (arith, b)
 
-shared-slice-read-wide : tie.Need-shared-slice-read-wide Inv-loop μ-loop
-shared-slice-read-wide c = search needs
+shared-slice-read-widen : tie.Need-shared-slice-read-widen Inv-loop μ-loop
+shared-slice-read-widen c = search needs
 
-sub-wide : tie.Need-sub-wide Inv-loop μ-loop
-sub-wide c =
+sub-widen : tie.Need-sub-widen Inv-loop μ-loop
+sub-widen c =
     let l = c .before .before in
     omega (arith, digit-at (l .before .before .args .text .now) (l .loop .i) (l .before .before .pre .1) (omega arith))
 
-wide-requires : tie.Need-wide-requires Inv-loop μ-loop
-wide-requires c κs = search needs
+widen-requires : tie.Need-widen-requires Inv-loop μ-loop
+widen-requires c κs = search needs
 
 add-n : tie.Need-add-n Inv-loop μ-loop
 add-n c =
     let l = c .before .before .before in
     omega
-    (arith, valued-small _ _ _ (l .loop .inv) (omega arith), c .wide .ensures, digit-at (l .before .before .args .text .now) (l .loop .i) (l .before .before .pre .1) (omega arith))
+    (arith, valued-small _ _ _ (l .loop .inv) (omega arith), c .widen .ensures, digit-at (l .before .before .args .text .now) (l .loop .i) (l .before .before .pre .1) (omega arith))
 
 add-i : tie.Need-add-i Inv-loop μ-loop
 add-i c = search needs
@@ -43,7 +43,7 @@ loop-less : tie.Need-loop-less Inv-loop μ-loop
 loop-less c = search needs
 
 loop-again : tie.Need-loop-again Inv-loop μ-loop
-loop-again c = let l = c .before .before .before in rw (c .wide .ensures) (valued-next _ _ _ (l .loop .inv) (omega arith) (l .before .before .pre .1))
+loop-again c = let l = c .before .before .before in rw (c .widen .ensures) (valued-next _ _ _ (l .loop .inv) (omega arith) (l .before .before .pre .1))
 
 returns : tie.Need-returns Inv-loop μ-loop
 returns c = valued-end _ _ _ (c .before .loop .inv) (omega arith)
@@ -56,9 +56,9 @@ value-spec =
     μ-loop
     loop-holds
     mul-n
-    shared-slice-read-wide
-    sub-wide
-    wide-requires
+    shared-slice-read-widen
+    sub-widen
+    widen-requires
     add-n
     add-i
     loop-less

@@ -6,7 +6,7 @@ use Rattle.media.specs.Write.{mediaOf}
 use Rattle.device.specs.Admission.{give}
 use Rattle.device.specs.Device.{deviceOf}
 use Rattle.session_run.specs.Session.{run}
-use Rattle.session_run.proofs.Steps.{within-of, made-silent, made-read}
+use Rattle.session_run.proofs.Steps.{within-of, made-prints-none, made-read}
 -- `session_run::execute` meets its contract: each line makes its call.
 use mathlib.Core.Path.{_≡_, refl, sym, ap, _∙_}
 use native.Mathlib.Omega.{arith}
@@ -20,8 +20,8 @@ enum-known-request c = search needs
 format-requires : tie.Need-format-requires
 format-requires c κs = search needs
 
-silent-requires : tie.Need-silent-requires
-silent-requires c κs = search needs
+prints-none-requires : tie.Need-prints-none-requires
+prints-none-requires c κs = search needs
 
 enum-known-request-2 : tie.Need-enum-known-request-2
 enum-known-request-2 c = search needs
@@ -29,8 +29,8 @@ enum-known-request-2 c = search needs
 mount-requires : tie.Need-mount-requires
 mount-requires c κs = search needs
 
-silent-requires-2 : tie.Need-silent-requires-2
-silent-requires-2 c κs = search needs
+prints-none-requires-2 : tie.Need-prints-none-requires-2
+prints-none-requires-2 c κs = search needs
 
 enum-known-request-3 : tie.Need-enum-known-request-3
 enum-known-request-3 c = search needs
@@ -40,8 +40,8 @@ write-bytes-requires c κs =
     within-of _ _ (c .before .before .before .before .request3 .given .1)
     (c .before .before .before .before .before .before .before .before .before .pre)
 
-silent-requires-3 : tie.Need-silent-requires-3
-silent-requires-3 c κs = search needs
+prints-none-requires-3 : tie.Need-prints-none-requires-3
+prints-none-requires-3 c κs = search needs
 
 enum-known-request-4 : tie.Need-enum-known-request-4
 enum-known-request-4 c = search needs
@@ -49,8 +49,8 @@ enum-known-request-4 c = search needs
 truncate-requires : tie.Need-truncate-requires
 truncate-requires c κs = search needs
 
-silent-requires-4 : tie.Need-silent-requires-4
-silent-requires-4 c κs = search needs
+prints-none-requires-4 : tie.Need-prints-none-requires-4
+prints-none-requires-4 c κs = search needs
 
 enum-known-request-5 : tie.Need-enum-known-request-5
 enum-known-request-5 c = search needs
@@ -58,8 +58,8 @@ enum-known-request-5 c = search needs
 sync-requires : tie.Need-sync-requires
 sync-requires c κs = search needs
 
-silent-requires-5 : tie.Need-silent-requires-5
-silent-requires-5 c κs = search needs
+prints-none-requires-5 : tie.Need-prints-none-requires-5
+prints-none-requires-5 c κs = search needs
 
 enum-known-request-6 : tie.Need-enum-known-request-6
 enum-known-request-6 c = search needs
@@ -72,8 +72,8 @@ read-bytes-requires c κs =
 enum-told : tie.Need-enum-told
 enum-told c = search needs
 
-silent-requires-6 : tie.Need-silent-requires-6
-silent-requires-6 c κs = search needs
+prints-none-requires-6 : tie.Need-prints-none-requires-6
+prints-none-requires-6 c κs = search needs
 
 same-length : tie.Need-same-length
 same-length c = search needs
@@ -85,9 +85,9 @@ returns : tie.Need-returns
 unfolding run
 returns c =
     let a = c .before .before .before .before .before .before .before .before .before .before .before .before .before .before .args in
-    made-silent (a .request) _ (c .before .before .before .before .before .before .before .before .before .request .given .1) pagesPerFile
+    made-prints-none (a .request) _ (c .before .before .before .before .before .before .before .before .before .request .given .1) pagesPerFile
     (deviceOf (mediaOf (a .media .now) (a .sizes .now)) (a .frames .now) (a .cache)) _ _ _ _ _ _ _ _ _ refl
-    (c .before .before .before .before .before .format .ensures (a .frames .now)) (c .silent .ensures)
+    (c .before .before .before .before .before .format .ensures (a .frames .now)) (c .prints-none .ensures)
 
 same-length-3 : tie.Need-same-length-3
 same-length-3 c = search needs
@@ -99,9 +99,9 @@ returns-2 : tie.Need-returns-2
 unfolding run
 returns-2 c =
     let a = c .before .before .before .before .before .before .before .before .before .before .before .before .before .before .args in
-    made-silent (a .request) _ (c .before .before .before .before .before .before .before .before .before .request2 .given .1) pagesPerFile
+    made-prints-none (a .request) _ (c .before .before .before .before .before .before .before .before .before .request2 .given .1) pagesPerFile
     (deviceOf (mediaOf (a .media .now) (a .sizes .now)) (a .frames .now) (a .cache)) _ _ _ _ _ _ _ _ _ refl
-    (c .before .before .before .before .before .mount .ensures (a .frames .now)) (c .silent2 .ensures)
+    (c .before .before .before .before .before .mount .ensures (a .frames .now)) (c .prints-none2 .ensures)
 
 same-length-5 : tie.Need-same-length-5
 same-length-5 c = search needs
@@ -116,9 +116,9 @@ returns-3 : tie.Need-returns-3
 unfolding run
 returns-3 c =
     let a = c .before .before .before .before .before .before .before .before .before .before .before .before .before .args in
-    made-silent (a .request) _ (c .before .before .before .before .before .before .before .before .request3 .given .1) pagesPerFile
+    made-prints-none (a .request) _ (c .before .before .before .before .before .before .before .before .request3 .given .1) pagesPerFile
     (deviceOf (mediaOf (a .media .now) (a .sizes .now)) (a .frames .now) (a .cache)) _ _ _ _ _ _ _ _ _ refl
-    (c .before .before .before .write-bytes .ensures) (c .silent3 .ensures)
+    (c .before .before .before .write-bytes .ensures) (c .prints-none3 .ensures)
 
 same-length-8 : tie.Need-same-length-8
 same-length-8 c = search needs
@@ -133,9 +133,9 @@ returns-4 : tie.Need-returns-4
 unfolding run
 returns-4 c =
     let a = c .before .before .before .before .before .before .before .before .before .before .before .before .before .args in
-    made-silent (a .request) _ (c .before .before .before .before .before .before .before .before .request4 .given .1) pagesPerFile
+    made-prints-none (a .request) _ (c .before .before .before .before .before .before .before .before .request4 .given .1) pagesPerFile
     (deviceOf (mediaOf (a .media .now) (a .sizes .now)) (a .frames .now) (a .cache)) _ _ _ _ _ _ _ _ _ refl
-    (c .before .before .before .truncate .ensures) (c .silent4 .ensures)
+    (c .before .before .before .truncate .ensures) (c .prints-none4 .ensures)
 
 same-length-11 : tie.Need-same-length-11
 same-length-11 c = search needs
@@ -150,9 +150,9 @@ returns-5 : tie.Need-returns-5
 unfolding run
 returns-5 c =
     let a = c .before .before .before .before .before .before .before .before .before .before .before .before .before .before .before .args in
-    made-silent (a .request) _ (c .before .before .before .before .before .before .before .before .before .before .request5 .given .1) pagesPerFile
+    made-prints-none (a .request) _ (c .before .before .before .before .before .before .before .before .before .before .request5 .given .1) pagesPerFile
     (deviceOf (mediaOf (a .media .now) (a .sizes .now)) (a .frames .now) (a .cache)) _ _ _ _ _ _ _ _ _ refl
-    (c .before .before .before .before .before .sync .ensures) (c .silent5 .ensures)
+    (c .before .before .before .before .before .sync .ensures) (c .prints-none5 .ensures)
 
 same-length-14 : tie.Need-same-length-14
 same-length-14 c = search needs
@@ -179,10 +179,10 @@ returns-7 : tie.Need-returns-7
 unfolding run
 returns-7 c =
     let a = c .before .before .before .before .before .before .args in
-    made-silent (a .request) _ (c .before .enum-told .given .1) pagesPerFile
+    made-prints-none (a .request) _ (c .before .enum-told .given .1) pagesPerFile
     (deviceOf (mediaOf (a .media .now) (a .sizes .now)) (a .frames .now) (a .cache)) (mediaOf (a .media .now) (a .sizes .now)) (a .frames .now) _ _ _
     _ (give LINE (deviceOf (mediaOf (a .media .now) (a .sizes .now)) (a .frames .now) (a .cache))) (Refused Line) (a .cache) refl refl
-    (c .silent6 .ensures)
+    (c .prints-none6 .ensures)
 
 pub execute-spec : {M : Type 1} → statement M
 execute-spec =
@@ -190,23 +190,23 @@ execute-spec =
     (tie.spec
     enum-known-request
     format-requires
-    silent-requires
+    prints-none-requires
     enum-known-request-2
     mount-requires
-    silent-requires-2
+    prints-none-requires-2
     enum-known-request-3
     write-bytes-requires
-    silent-requires-3
+    prints-none-requires-3
     enum-known-request-4
     truncate-requires
-    silent-requires-4
+    prints-none-requires-4
     enum-known-request-5
     sync-requires
-    silent-requires-5
+    prints-none-requires-5
     enum-known-request-6
     read-bytes-requires
     enum-told
-    silent-requires-6
+    prints-none-requires-6
     same-length
     same-length-2
     returns

@@ -19,7 +19,7 @@ array-borrow-prefix-bytes c = rw (c .read-buffer .ensures) (omega (arith, length
 slice-aggregate-read : tie.Need-slice-aggregate-read
 slice-aggregate-read c =
     let a = c .before .before .before .before .before .args in
-    rw (c .before .read-buffer .ensures) (sym (length-front (a .length) readBuffer (omega (arith, length-buffer))))
+    rw (c .before .read-buffer .ensures) (sym (length-front (a .count) readBuffer (omega (arith, length-buffer))))
 
 read-requires : tie.Need-read-requires
 read-requires c κs = search needs
@@ -29,7 +29,7 @@ returns c =
     let a = c .before .before .before .before .before .before .before .before .args in
     let z = c .before .before .before .before .read-buffer .ensures in
     let r = c .before .before .read in (
-      ap (give _) (take-front (a .length) _ _ (r .kept .1 .1 .1 .1 .1 .1 .0 ∙ rw z (length-front (a .length) readBuffer (omega (arith, length-buffer))))) ∙ rw (z, take-buffer (a .length) (omega arith)) at (r .ensures .0),
+      ap (give _) (take-front (a .count) _ _ (r .kept .1 .1 .1 .1 .1 .1 .0 ∙ rw z (length-front (a .count) readBuffer (omega (arith, length-buffer))))) ∙ rw (z, take-buffer (a .count) (omega arith)) at (r .ensures .0),
       r .ensures .1,
       refl,
     )

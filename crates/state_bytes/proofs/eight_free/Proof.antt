@@ -12,20 +12,20 @@ use Rattle.state_bytes.proofs.eight_free.Tie as tie
 sub-if2 : tie.Need-sub-if2
 sub-if2 c = search needs
 
-mul-is-zero : tie.Need-mul-is-zero
-mul-is-zero c = search needs
+mul-three-words-zero : tie.Need-mul-three-words-zero
+mul-three-words-zero c = search needs
 
-add-is-zero : tie.Need-add-is-zero
-add-is-zero c = search needs
+add-three-words-zero : tie.Need-add-three-words-zero
+add-three-words-zero c = search needs
 
-is-zero-requires : tie.Need-is-zero-requires
-is-zero-requires c κs = search needs
+three-words-zero-requires : tie.Need-three-words-zero-requires
+three-words-zero-requires c κs = search needs
 
 returns : tie.Need-returns
 unfolding slotsZero
 returns c =
     let a = c .before .before .before .before .args in
-    rw (eq-eqb (length (a .state .now)) stateBytes (omega arith), le-leb (a .k + 8) slotCount (omega arith)) (c .is-zero .ensures)
+    rw (eq-eqb (length (a .state .now)) stateBytes (omega arith), le-leb (a .k + 8) slotCount (omega arith)) (c .three-words-zero .ensures)
 
 returns-2 : tie.Need-returns-2
 unfolding slotsZero
@@ -42,4 +42,4 @@ returns-3 c =
 pub eight-free-spec : {M : Type 1} → statement M
 eight-free-spec =
     tie.close
-    (tie.spec sub-if2 mul-is-zero add-is-zero is-zero-requires returns returns-2 returns-3)
+    (tie.spec sub-if2 mul-three-words-zero add-three-words-zero three-words-zero-requires returns returns-2 returns-3)

@@ -10,12 +10,12 @@ use Rattle.memory.specs.Bytes.{overwrite}
 use Rattle.memory.proofs.Bytes.{overwrite-none, length-overwrite}
 use Rattle.state_bytes.proofs.Encoding.{put-next}
 use Rattle.media.specs.Geometry.{files}
-use Rattle.state_bytes.specs.Encoding.{stateBytes, numberBytes, joined}
+use Rattle.state_bytes.specs.Encoding.{stateBytes, numberBytes, concatMap}
 use Rattle.state_bytes.proofs.put_sizes.Statement.{statement}
 use Rattle.state_bytes.proofs.put_sizes.Tie as tie
 
 abbrev Inv-loop : tie.InvT-loop
-Inv-loop state₀ at sizes f₀ state f = (state ≡ overwrite state₀ at (joined numberBytes (take f sizes))) × (f ≤ files) × (length state ≡ stateBytes) × (length sizes ≡ files)
+Inv-loop state₀ at sizes f₀ state f = (state ≡ overwrite state₀ at (concatMap numberBytes (take f sizes))) × (f ≤ files) × (length state ≡ stateBytes) × (length sizes ≡ files)
 
 abbrev μ-loop : tie.MeasureT-loop
 μ-loop state₀ at sizes f₀ state f = files - f

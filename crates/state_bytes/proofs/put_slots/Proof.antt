@@ -10,18 +10,18 @@ use Rattle.memory.specs.Bytes.{overwrite}
 use Rattle.memory.proofs.Bytes.{overwrite-none, length-overwrite}
 use Rattle.state_bytes.proofs.Encoding.{put-next}
 use Rattle.device.specs.Device.{slotCount, freeSlot}
-use Rattle.state_bytes.specs.Encoding.{stateBytes, slotsAt, slotBytes, joined}
+use Rattle.state_bytes.specs.Encoding.{stateBytes, slotsStart, slotBytes, concatMap}
 use Rattle.state_bytes.proofs.put_slots.Statement.{statement}
 use Rattle.state_bytes.proofs.put_slots.Tie as tie
 
 abbrev Inv-loop : tie.InvT-loop
-Inv-loop state₀ slots k₀ state k = (state ≡ overwrite state₀ slotsAt (joined slotBytes (take k slots))) × (k ≤ slotCount) × (length state ≡ stateBytes) × (length slots ≡ slotCount)
+Inv-loop state₀ slots k₀ state k = (state ≡ overwrite state₀ slotsStart (concatMap slotBytes (take k slots))) × (k ≤ slotCount) × (length state ≡ stateBytes) × (length slots ≡ slotCount)
 
 abbrev μ-loop : tie.MeasureT-loop
 μ-loop state₀ slots k₀ state k = slotCount - k
 
 loop-holds : tie.Need-loop-holds Inv-loop μ-loop
-loop-holds c = (sym (overwrite-none _ slotsAt), search needs, search needs, search needs)
+loop-holds c = (sym (overwrite-none _ slotsStart), search needs, search needs, search needs)
 
 mul-put-slot : tie.Need-mul-put-slot Inv-loop μ-loop
 mul-put-slot c = search needs
@@ -48,7 +48,7 @@ loop-again : tie.Need-loop-again Inv-loop μ-loop
 loop-again c =
     let l = c .before .before .before .before .before .before in
     let a = l .before .before .args in (
-      c .before .before .put-slot .ensures ∙ rw (l .loop .inv .0) (put-next 3 slotBytes (λ x. refl) (a .state .now) slotsAt (a .t2) (l .loop .k) freeSlot (omega arith)),
+      c .before .before .put-slot .ensures ∙ rw (l .loop .inv .0) (put-next 3 slotBytes (λ x. refl) (a .state .now) slotsStart (a .t2) (l .loop .k) freeSlot (omega arith)),
       omega arith,
       omega (arith, c .before .before .put-slot .kept .0),
       omega arith,

@@ -3,7 +3,7 @@ use Prim.Native.Nat.{_+_, _*_}
 use native.Mathlib.Omega.{arith}
 use borrow.Author.Needs.{needs}
 use Rattle.device.specs.Device.{slotCount, freeSlot}
-use Rattle.state_bytes.specs.Encoding.{slotsAt}
+use Rattle.state_bytes.specs.Encoding.{slotsStart}
 use Rattle.state_bytes.proofs.InPlace.{decode-other, slot-read, slot-past, none-at}
 use Rattle.state_bytes.proofs.slot_word.Statement.{statement}
 use Rattle.state_bytes.proofs.slot_word.Tie as tie
@@ -21,7 +21,7 @@ returns : tie.Need-returns
 returns c =
     let s = c .before .before .before in
     let a = s .before .args in
-    let at = slotsAt + 3 * a .k in
+    let at = slotsStart + 3 * a .k in
     let small = s .shared-slice-known .given in
     rw (slot-read (a .state .now) (omega arith) (a .k) (omega arith), c .number-in .ensures) (omega (arith, small at, small (at + 1), small (at + 2)))
 

@@ -6,13 +6,13 @@ use native.Mathlib.Omega.{arith}
 use lib.ListN.{length, drop}
 use borrow.Author.Needs.{needs}
 use Rattle.device.specs.Device.{slotCount, freeSlot}
-use Rattle.state_bytes.specs.Encoding.{slotsAt, slotIn, each, slotsIn}
+use Rattle.state_bytes.specs.Encoding.{slotsStart, slotIn, each, slotsIn}
 use Rattle.state_bytes.proofs.Encoding.{each-next, each-all}
 use Rattle.state_bytes.proofs.slots_in.Statement.{statement}
 use Rattle.state_bytes.proofs.slots_in.Tie as tie
 
 abbrev Inv-loop : tie.InvT-loop
-Inv-loop state slots₀ k₀ slots k = (slots ≡ each k (λ n. slotIn state (slotsAt + 3 * n)) ++ drop k slots₀) × (k ≤ slotCount) × (length slots₀ ≡ slotCount)
+Inv-loop state slots₀ k₀ slots k = (slots ≡ each k (λ n. slotIn state (slotsStart + 3 * n)) ++ drop k slots₀) × (k ≤ slotCount) × (length slots₀ ≡ slotCount)
 
 abbrev μ-loop : tie.MeasureT-loop
 μ-loop state slots₀ k₀ slots k = slotCount - k
@@ -54,7 +54,7 @@ unfolding slotsIn
 returns c =
     let l = c .before in
     let e : l .loop .k ≡ slotCount = omega arith in
-    rw (e) at (l .loop .inv .0) ∙ each-all (λ n. slotIn (l .before .before .before .args .state .now) (slotsAt + 3 * n)) (l .before .no-slots .result) slotCount (omega arith)
+    rw (e) at (l .loop .inv .0) ∙ each-all (λ n. slotIn (l .before .before .before .args .state .now) (slotsStart + 3 * n)) (l .before .no-slots .result) slotCount (omega arith)
 
 pub slots-in-spec : {M : Type 1} → statement M
 slots-in-spec =

@@ -15,7 +15,7 @@ use Rattle.device.specs.Mounting.{formatPlan, format}
 use Rattle.device.proofs.Admission.{admit-refused, shape-refusing, shape-admitted}
 use Rattle.device.proofs.Plan.{plan-ends}
 use Rattle.state_bytes.specs.Encoding.{stateBytes}
-use Rattle.state_bytes.specs.InPlace.{Lent, lent, deviceIn, inBytes}
+use Rattle.state_bytes.specs.InPlace.{Borrowed, borrowed, deviceIn, inBytes}
 use Rattle.state_bytes.proofs.Inverse.{are-bytes}
 use Rattle.state_bytes.proofs.OnBytes.{shape-passed, refused-on, length-on}
 use Rattle.writeback.proofs.format.Statement.{statement}
@@ -24,8 +24,8 @@ use Rattle.writeback.proofs.format.Tie as tie
 abbrev media-of : tie.Start → Media
 media-of s = mediaOf (s .args .media .now) (s .args .sizes .now)
 
-abbrev came : tie.Start → List ℕ → Lent
-came s frames = lent (media-of s) frames (s .args .state .now)
+abbrev came : tie.Start → List ℕ → Borrowed
+came s frames = borrowed (media-of s) frames (s .args .state .now)
 
 abbrev start : tie.After-enum-told → tie.Start
 start c = c .before .before .before .before .before .before .before .before
@@ -37,8 +37,8 @@ all c = shape-passed (start c .args .state .now) (mediaShape pagesPerFile (media
 admit-format-requires : tie.Need-admit-format-requires
 admit-format-requires c κs = search needs
 
-enum-known-admission : tie.Need-enum-known-admission
-enum-known-admission c = search needs
+enum-known-admitted : tie.Need-enum-known-admitted
+enum-known-admitted c = search needs
 
 enum-told : tie.Need-enum-told
 enum-told c = search needs
@@ -63,9 +63,9 @@ unfolding format
 returns c =
     let b = c .before .before .before in
     let s = b .before .before .before .before .before .before in
-    let x = c .before .admission .given .0 .0 in
+    let x = c .before .admitted .given .0 .0 in
     λ frames. refused-on (format pagesPerFile (s .args .budget)) (came s frames) (mediaShape pagesPerFile (media-of s)) x
-    (coded-of (b .admit-format .result) (Refused x) _ (c .before .admission .given .1) (b .admit-format .ensures _ refl)) (are-bytes _ (c .before .before .before .before .before .before .slice-known3 .given))
+    (coded-of (b .admit-format .result) (Refused x) _ (c .before .admitted .given .1) (b .admit-format .ensures _ refl)) (are-bytes _ (c .before .before .before .before .before .before .slice-known3 .given))
     (admit-refused (mediaShape pagesPerFile (media-of s)) (deviceIn (came s frames)) _ x)
 
 same-length-3 : tie.Need-same-length-3
@@ -96,7 +96,7 @@ format-spec =
     tie.close
     (tie.spec
     admit-format-requires
-    enum-known-admission
+    enum-known-admitted
     enum-told
     format-files-requires
     down-state-requires

@@ -15,7 +15,7 @@ use Rattle.device.specs.Mounting.{mountPlan, mount}
 use Rattle.device.proofs.Admission.{Mountable, admit-refused, mount-refusing, mount-admitted}
 use Rattle.device.proofs.Plan.{plan-ends}
 use Rattle.state_bytes.specs.Encoding.{stateBytes}
-use Rattle.state_bytes.specs.InPlace.{Lent, lent, deviceIn, inBytes}
+use Rattle.state_bytes.specs.InPlace.{Borrowed, borrowed, deviceIn, inBytes}
 use Rattle.state_bytes.proofs.Inverse.{are-bytes}
 use Rattle.state_bytes.proofs.OnBytes.{shape-passed, refused-on, length-on}
 use Rattle.writeback.proofs.mount.Statement.{statement}
@@ -24,8 +24,8 @@ use Rattle.writeback.proofs.mount.Tie as tie
 abbrev media-of : tie.Start → Media
 media-of s = mediaOf (s .args .media .now) (s .args .sizes .now)
 
-abbrev came : tie.Start → List ℕ → Lent
-came s frames = lent (media-of s) frames (s .args .state .now)
+abbrev came : tie.Start → List ℕ → Borrowed
+came s frames = borrowed (media-of s) frames (s .args .state .now)
 
 abbrev start : tie.After-enum-told → tie.Start
 start c = c .before .before .before .before .before .before .before .before
@@ -40,8 +40,8 @@ ready c = mount-admitted pagesPerFile (deviceIn (came (start c) [])) (all c .1)
 admit-mount-requires : tie.Need-admit-mount-requires
 admit-mount-requires c κs = search needs
 
-enum-known-admission : tie.Need-enum-known-admission
-enum-known-admission c = search needs
+enum-known-admitted : tie.Need-enum-known-admitted
+enum-known-admitted c = search needs
 
 enum-told : tie.Need-enum-told
 enum-told c = search needs
@@ -69,9 +69,9 @@ unfolding mount
 returns c =
     let b = c .before .before .before in
     let s = b .before .before .before .before .before .before in
-    let x = c .before .admission .given .0 .0 in
+    let x = c .before .admitted .given .0 .0 in
     λ frames. refused-on (mount pagesPerFile (s .args .budget)) (came s frames) (mountTests pagesPerFile (media-of s)) x
-    (coded-of (b .admit-mount .result) (Refused x) _ (c .before .admission .given .1) (b .admit-mount .ensures _ refl)) (are-bytes _ (c .before .before .before .before .before .before .slice-known3 .given))
+    (coded-of (b .admit-mount .result) (Refused x) _ (c .before .admitted .given .1) (b .admit-mount .ensures _ refl)) (are-bytes _ (c .before .before .before .before .before .before .slice-known3 .given))
     (admit-refused (mountTests pagesPerFile (media-of s)) (deviceIn (came s frames)) _ x)
 
 same-length-3 : tie.Need-same-length-3
@@ -103,7 +103,7 @@ mount-spec =
     tie.close
     (tie.spec
     admit-mount-requires
-    enum-known-admission
+    enum-known-admitted
     enum-told
     sizes-array-requires
     mount-files-requires

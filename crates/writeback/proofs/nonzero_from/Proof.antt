@@ -27,17 +27,17 @@ mul-end c = search needs
 add-end : tie.Need-add-end
 add-end c = search needs
 
-sub-is-zero : tie.Need-sub-is-zero
-sub-is-zero c = search needs
+sub-all-zero-by-pages : tie.Need-sub-all-zero-by-pages
+sub-all-zero-by-pages c = search needs
 
-part-is-zero-start : tie.Need-part-is-zero-start
-part-is-zero-start c = search needs
+part-all-zero-by-pages-start : tie.Need-part-all-zero-by-pages-start
+part-all-zero-by-pages-start c = search needs
 
-part-is-zero-end : tie.Need-part-is-zero-end
-part-is-zero-end c = search needs
+part-all-zero-by-pages-end : tie.Need-part-all-zero-by-pages-end
+part-all-zero-by-pages-end c = search needs
 
-is-zero-requires : tie.Need-is-zero-requires
-is-zero-requires c κs = search needs
+all-zero-by-pages-requires : tie.Need-all-zero-by-pages-requires
+all-zero-by-pages-requires c κs = search needs
 
 returns : tie.Need-returns
 unfolding nonzeroFrom fileStart
@@ -45,7 +45,7 @@ returns c =
     let a = c .before .before .before .args in
     let from : ℕ = fileStart pagesPerFile (a .file) + a .n in
     let e : fileStart pagesPerFile (a .file) + fileBytes pagesPerFile - from ≡ fileBytes pagesPerFile - a .n = omega arith in
-    λ stored. ap not (c .is-zero .ensures ∙ ap (λ (k : ℕ). every (λ b. eqb b 0) (part (a .media .now) from k)) e)
+    λ stored. ap not (c .all-zero-by-pages .ensures ∙ ap (λ (k : ℕ). every (λ b. eqb b 0) (part (a .media .now) from k)) e)
 
 pub nonzero-from-spec : {M : Type 1} → statement M
 nonzero-from-spec =
@@ -56,8 +56,8 @@ nonzero-from-spec =
     add-from
     mul-end
     add-end
-    sub-is-zero
-    part-is-zero-start
-    part-is-zero-end
-    is-zero-requires
+    sub-all-zero-by-pages
+    part-all-zero-by-pages-start
+    part-all-zero-by-pages-end
+    all-zero-by-pages-requires
     returns)

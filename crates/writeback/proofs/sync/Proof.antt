@@ -11,32 +11,32 @@ use Rattle.device.specs.Admission.{fileTests}
 use Rattle.device.proofs.Sound.{sound-sizes}
 use Rattle.device.proofs.Admission.{Admitted}
 use Rattle.state_bytes.specs.Encoding.{stateBytes, decode}
-use Rattle.state_bytes.specs.InPlace.{Lent, lent, deviceIn}
+use Rattle.state_bytes.specs.InPlace.{Borrowed, borrowed, deviceIn}
 use Rattle.state_bytes.proofs.Inverse.{are-bytes}
-use Rattle.state_bytes.proofs.OnBytes.{lent-passed, lent-ready, lent-refused}
-use Rattle.cache_state.proofs.Soundness.{table-done}
+use Rattle.state_bytes.proofs.OnBytes.{borrowed-passed, borrowed-ready, borrowed-refused}
+use Rattle.admission.proofs.Soundness.{table-done}
 use Rattle.writeback.proofs.Ends.{refused-ends, cut-ends, done-ends}
 use Rattle.writeback.proofs.sync.Statement.{statement}
 use Rattle.writeback.proofs.sync.Tie as tie
 
-abbrev device : tie.Start → Lent
-device s = lent (mediaOf (s .args .media .now) (s .args .sizes .now)) (s .args .frames .now) (s .args .state .now)
+abbrev device : tie.Start → Borrowed
+device s = borrowed (mediaOf (s .args .media .now) (s .args .sizes .now)) (s .args .frames .now) (s .args .state .now)
 
 abbrev start : tie.After-enum-told → tie.Start
 start c = c .before .before .before .before .before .before .before .before .before .before
 
 -- what `admit` has tested
 all : (c : tie.After-enum-told) → (length (start c .args .state .now) ≡ stateBytes) × (passed (fileTests pagesPerFile (deviceIn (device (start c))) (start c .args .file) true) ≡ true)
-all c = lent-passed pagesPerFile (device (start c)) _ true (c .before .before .admit .result) (c .before .before .admit .ensures .0 _ _ refl refl) _ (c .enum-told .given .1)
+all c = borrowed-passed pagesPerFile (device (start c)) _ true (c .before .before .admit .result) (c .before .before .admit .ensures .0 _ _ refl refl) _ (c .enum-told .given .1)
 
 ready : (c : tie.After-enum-told) → Admitted pagesPerFile (deviceIn (device (start c))) (start c .args .file) true
-ready c = lent-ready pagesPerFile (device (start c)) _ true (c .before .before .admit .result) (c .before .before .admit .ensures .0 _ _ refl refl) _ (c .enum-told .given .1)
+ready c = borrowed-ready pagesPerFile (device (start c)) _ true (c .before .before .admit .result) (c .before .before .admit .ensures .0 _ _ refl refl) _ (c .enum-told .given .1)
 
 admit-requires : tie.Need-admit-requires
 admit-requires c κs = search needs
 
-enum-known-admission : tie.Need-enum-known-admission
-enum-known-admission c = search needs
+enum-known-admitted : tie.Need-enum-known-admitted
+enum-known-admitted c = search needs
 
 enum-told : tie.Need-enum-told
 enum-told c = search needs
@@ -92,9 +92,9 @@ returns-2 : tie.Need-returns-2
 returns-2 c =
     let b = c .before .before .before in
     let s = b .before .before .before .before .before .before .before .before in
-    let x = c .before .admission .given .0 .0 in
+    let x = c .before .admitted .given .0 .0 in
     refused-ends pagesPerFile (s .args .file) (s .args .budget) (device s) x
-    (lent-refused pagesPerFile (device s) (s .args .file) true (b .admit .result) (b .admit .ensures .0 _ _ refl refl) x (c .before .admission .given .1)) (are-bytes _ (c .before .before .before .before .before .before .before .slice-known3 .given))
+    (borrowed-refused pagesPerFile (device s) (s .args .file) true (b .admit .result) (b .admit .ensures .0 _ _ refl refl) x (c .before .admitted .given .1)) (are-bytes _ (c .before .before .before .before .before .before .before .slice-known3 .given))
 
 same-length-6 : tie.Need-same-length-6
 same-length-6 c = search needs
@@ -119,7 +119,7 @@ sync-spec =
     tie.close
     (tie.spec
     admit-requires
-    enum-known-admission
+    enum-known-admitted
     enum-told
     sync-writes-requires
     cut-requires

@@ -11,7 +11,7 @@ use Rattle.device.proofs.Syncing.{free-all}
 use Rattle.state_bytes.specs.Encoding.{decode}
 use Rattle.state_bytes.proofs.Inverse.{are-bytes}
 use Rattle.state_bytes.proofs.InPlace.{floor-changed}
-use Rattle.cache_state.proofs.Freeing.{freed-changed}
+use Rattle.admission.proofs.Freeing.{freed-changed}
 use Rattle.writeback.proofs.sync_state.Statement.{statement}
 use Rattle.writeback.proofs.sync_state.Tie as tie
 

@@ -10,19 +10,19 @@ use Rattle.media.specs.Write.{mediaOf}
 use Rattle.device.specs.Device.{Device}
 use Rattle.device.specs.Plan.{Spent}
 use Rattle.device.specs.Syncing.{pageWrites}
-use Rattle.cache_state.specs.Tables.{slotTable}
+use Rattle.admission.specs.Tables.{slotTable}
 use Rattle.writeback.proofs.Pages.{one-more, pages-none, pages-next}
 use Rattle.writeback.proofs.write_pages.Statement.{statement}
 use Rattle.writeback.proofs.write_pages.Tie as tie
 
 abbrev Inv-loop : tie.InvT-loop
-Inv-loop media₀ frames slots file budget before needed₀ left₀ media needed left =
+Inv-loop media₀ frames table file budget before needed₀ left₀ media needed left =
     (left ≤ pagesPerFile) × (needed + left ≤ before + pagesPerFile) × (length media ≡ length media₀)
-    × ((stored : List ℕ) (d : Device) → d .frames ≡ frames → slots ≡ slotTable pagesPerFile (d .cache .slots)
+    × ((stored : List ℕ) (d : Device) → d .frames ≡ frames → table ≡ slotTable pagesPerFile (d .cache .slots)
     → Spent pagesPerFile budget (mediaOf media₀ stored) before needed (pageWrites d file (pagesPerFile - left) 0) (mediaOf media stored))
 
 abbrev μ-loop : tie.MeasureT-loop
-μ-loop media₀ frames slots file budget before needed₀ left₀ media needed left = left
+μ-loop media₀ frames table file budget before needed₀ left₀ media needed left = left
 
 loop-holds : tie.Need-loop-holds Inv-loop μ-loop
 loop-holds c =
@@ -53,7 +53,7 @@ loop-again c =
       omega (arith, l .loop .inv .1, one-more _ _ (p .page-if .ensures [])),
       omega (arith, p .page-if .kept .0, l .loop .inv .2),
       λ stored d ef et.
-          pages-next (a .budget) d (a .file) (a .before) (mediaOf (a .media .now) stored) (pagesPerFile - l .loop .left) (pagesPerFile - (l .loop .left - 1)) (l .loop .needed) (p .page-if .result) (p .before .before .slot-of .result) _ _ (a .frames .now) (a .slots .now) (omega arith) (omega arith) (omega arith) ef et (p .before .before .slot-of .ensures)
+          pages-next (a .budget) d (a .file) (a .before) (mediaOf (a .media .now) stored) (pagesPerFile - l .loop .left) (pagesPerFile - (l .loop .left - 1)) (l .loop .needed) (p .page-if .result) (p .before .before .slot-of .result) _ _ (a .frames .now) (a .table .now) (omega arith) (omega arith) (omega arith) ef et (p .before .before .slot-of .ensures)
           (l .loop .inv .3 stored d ef et) (p .page-if .ensures stored),
     )
 

@@ -15,18 +15,18 @@ use Rattle.writing.proofs.put_pages.Statement.{statement}
 use Rattle.writing.proofs.put_pages.Tie as tie
 
 abbrev Inv-loop : tie.InvT-loop
-Inv-loop media frames₀ state₀ slots file position bytes from₀ frames state from =
+Inv-loop media frames₀ state₀ table file position bytes from₀ frames state from =
     ((stored : List ℕ) → Rest pagesPerFile file position bytes (deviceOf (mediaOf media stored) frames₀ (decode state₀)) from (deviceOf (mediaOf media stored) frames (decode state)))
     × (from ≤ length bytes) × (length frames ≡ length frames₀)
-    × Told slots file (position + from) (length bytes - from) (decode state .slots) × (length state ≡ length state₀)
+    × Told table file (position + from) (length bytes - from) (decode state .slots) × (length state ≡ length state₀)
 
 abbrev μ-loop : tie.MeasureT-loop
-μ-loop media frames₀ state₀ slots file position bytes from₀ frames state from = length bytes - from
+μ-loop media frames₀ state₀ table file position bytes from₀ frames state from = length bytes - from
 
 loop-holds : tie.Need-loop-holds Inv-loop μ-loop
 loop-holds c =
     let s = c .before .before .before .before in
-    (λ stored. rest-none, search needs, search needs, told-all (s .args .slots .now) (s .args .file) (omega arith) _ _ _ (s .pre .4), search needs)
+    (λ stored. rest-none, search needs, search needs, told-all (s .args .table .now) (s .args .file) (omega arith) _ _ _ (s .pre .4), search needs)
 
 add-page : tie.Need-add-page Inv-loop μ-loop
 add-page c = search needs
@@ -76,7 +76,7 @@ loop-again c =
       λ stored. rest-next (l .loop .inv .0 stored) (n .min .result) _ (omega arith) (omega arith) has (omega arith) (taken-yes _ _ _ _ (p .put-page .ensures .1 stored) (c .if1 .taken)),
       omega arith,
       omega (arith, p .put-page .kept .1 .0, p .put-page .kept .1 .1 .0, l .loop .inv .2),
-      told-next (a .slots .now) (a .file) (a .position + l .loop .from) (length (a .bytes .now) - l .loop .from) (deviceOf (mediaOf (a .media .now) []) (l .loop .frames) (decode (l .loop .state)))
+      told-next (a .table .now) (a .file) (a .position + l .loop .from) (length (a .bytes .now) - l .loop .from) (deviceOf (mediaOf (a .media .now) []) (l .loop .frames) (decode (l .loop .state)))
           (l .loop .inv .3) (shaped (l .loop .state) .slots) has (n .min .result) _ _ _ _ _ (omega arith) (omega arith) (omega arith) (taken-yes _ _ _ _ (p .put-page .ensures .1 []) (c .if1 .taken)),
       omega (arith, p .put-page .kept .1 .0, p .put-page .kept .1 .1 .0, l .loop .inv .4),
     )

@@ -3,7 +3,7 @@ use mathlib.Core.Path.{_≡_, _∙_}
 use Prim.Native.Nat.{_/_}
 use native.Mathlib.Omega.{arith}
 use Rattle.media.specs.Geometry.{pageBytes}
-use Rattle.cache_state.proofs.Pass.{slot-for}
+use Rattle.admission.proofs.Pass.{slot-for}
 use Rattle.writing.proofs.Tails.{tail-gone, tail-stays}
 use borrow.Author.Needs.{needs}
 use Rattle.writing.proofs.tail_slot.Statement.{statement}

@@ -17,19 +17,19 @@ use Rattle.device.specs.Truncating.{withSizes, truncate}
 use Rattle.device.proofs.Admission.{Admitted}
 use Rattle.device.proofs.Truncating.{truncate-refused, truncate-done}
 use Rattle.state_bytes.specs.Encoding.{stateBytes, decode}
-use Rattle.state_bytes.specs.InPlace.{Lent, lent, deviceIn}
+use Rattle.state_bytes.specs.InPlace.{Borrowed, borrowed, deviceIn}
 use Rattle.state_bytes.proofs.Inverse.{are-bytes}
 use Rattle.state_bytes.proofs.InPlace.{shaped}
-use Rattle.state_bytes.proofs.OnBytes.{lent-passed, lent-ready, lent-refused, refused-on, bytes-on}
-use Rattle.cache_state.specs.Tables.{slotTable}
-use Rattle.cache_state.proofs.Soundness.{table-is}
+use Rattle.state_bytes.proofs.OnBytes.{borrowed-passed, borrowed-ready, borrowed-refused, refused-on, bytes-on}
+use Rattle.admission.specs.Tables.{slotTable}
+use Rattle.admission.proofs.Soundness.{table-is}
 use borrow.Author.Needs.{needs}
 use Rattle.writing.proofs.truncate.Statement.{statement}
 use Rattle.writing.proofs.truncate.Tie as tie
 
--- the device at the start, as it is lent
-abbrev came : tie.Start → Lent
-came c = lent (mediaOf (c .args .media .now) (c .args .sizes .now)) (c .args .frames .now) (c .args .state .now)
+-- the device at the start, as it is borrowed
+abbrev came : tie.Start → Borrowed
+came c = borrowed (mediaOf (c .args .media .now) (c .args .sizes .now)) (c .args .frames .now) (c .args .state .now)
 
 abbrev device : tie.Start → Device
 device c = deviceIn (came c)
@@ -42,11 +42,11 @@ call c = truncate pagesPerFile (c .args .file) (c .args .n)
 
 -- what `admit` has tested
 ready : (c : tie.After-enum-told) → let s = c .before .before .before .before .before .before .before .before .before in Admitted pagesPerFile (device s) (s .args .file) (range s)
-ready c = let s = c .before .before .before .before .before .before .before .before .before in lent-ready pagesPerFile (came s) _ (range s) (c .before .before .admit .result) (c .before .before .admit .ensures .0 _ _ refl refl) _ (c .enum-told .given .1)
+ready c = let s = c .before .before .before .before .before .before .before .before .before in borrowed-ready pagesPerFile (came s) _ (range s) (c .before .before .admit .result) (c .before .before .admit .ensures .0 _ _ refl refl) _ (c .enum-told .given .1)
 
 all : (c : tie.After-enum-told) → let s = c .before .before .before .before .before .before .before .before .before in
     (length (s .args .state .now) ≡ stateBytes) × (passed (fileTests pagesPerFile (device s) (s .args .file) (range s)) ≡ true)
-all c = let s = c .before .before .before .before .before .before .before .before .before in lent-passed pagesPerFile (came s) _ (range s) (c .before .before .admit .result) (c .before .before .admit .ensures .0 _ _ refl refl) _ (c .enum-told .given .1)
+all c = let s = c .before .before .before .before .before .before .before .before .before in borrowed-passed pagesPerFile (came s) _ (range s) (c .before .before .admit .result) (c .before .before .admit .ensures .0 _ _ refl refl) _ (c .enum-told .given .1)
 
 in-limits : (c : tie.After-enum-told) → c .before .before .before .before .before .before .before .before .before .args .n ≤ fileBytes pagesPerFile
 in-limits c = leb-true _ _ (ready c .in-range)
@@ -60,8 +60,8 @@ mul-greatest c = search needs
 admit-requires : tie.Need-admit-requires
 admit-requires c κs = search needs
 
-enum-known-admission : tie.Need-enum-known-admission
-enum-known-admission c = search needs
+enum-known-admitted : tie.Need-enum-known-admitted
+enum-known-admitted c = search needs
 
 enum-told : tie.Need-enum-told
 enum-told c = search needs
@@ -82,8 +82,8 @@ returns : tie.Need-returns
 returns c =
     let b = c .before .before .before in
     let s = c .before .before .before .before .before .before .before .before .before .before in
-    let x = c .before .admission .given .0 .0 in
-    let r = lent-refused pagesPerFile (came s) (s .args .file) (range s) (b .admit .result) (b .admit .ensures .0 _ _ refl refl) x (c .before .admission .given .1) in
+    let x = c .before .admitted .given .0 .0 in
+    let r = borrowed-refused pagesPerFile (came s) (s .args .file) (range s) (b .admit .result) (b .admit .ensures .0 _ _ refl refl) x (c .before .admitted .given .1) in
     refused-on (call s) (came s) _ x r (are-bytes _ (c .before .before .before .before .before .before .slice-known2 .given)) (truncate-refused pagesPerFile (s .args .file) (s .args .n) (device s) x)
 
 same-length-2 : tie.Need-same-length-2
@@ -109,7 +109,7 @@ truncate-spec =
     (tie.spec
     mul-greatest
     admit-requires
-    enum-known-admission
+    enum-known-admitted
     enum-told
     truncate-state-requires
     tail-slot-requires

@@ -4,7 +4,7 @@ use Rattle.state_bytes.specs.Encoding.{decode}
 use Rattle.writing.proofs.Tails.{sizes-set}
 use Rattle.state_bytes.proofs.Inverse.{are-bytes}
 use Rattle.state_bytes.proofs.InPlace.{logical-changed, floor-changed}
-use Rattle.cache_state.proofs.Freeing.{freed-changed}
+use Rattle.admission.proofs.Freeing.{freed-changed}
 use borrow.Author.Needs.{needs}
 use Rattle.writing.proofs.truncate_state.Statement.{statement}
 use Rattle.writing.proofs.truncate_state.Tie as tie

@@ -17,18 +17,18 @@ use Rattle.device.specs.Writing.{Written, write}
 use Rattle.device.proofs.Admission.{Admitted}
 use Rattle.device.proofs.Writing.{pages-most, write-refused, write-empty, write-full, write-done}
 use Rattle.state_bytes.specs.Encoding.{stateBytes, decode}
-use Rattle.state_bytes.specs.InPlace.{Lent, lent, deviceIn, lentTests}
+use Rattle.state_bytes.specs.InPlace.{Borrowed, borrowed, deviceIn, borrowedTests}
 use Rattle.state_bytes.proofs.Inverse.{are-bytes}
-use Rattle.state_bytes.proofs.OnBytes.{lent-passed, lent-ready, lent-refused, refused-on, bytes-on}
-use Rattle.cache_state.specs.Tables.{slotTable}
-use Rattle.cache_state.proofs.Soundness.{table-is}
+use Rattle.state_bytes.proofs.OnBytes.{borrowed-passed, borrowed-ready, borrowed-refused, refused-on, bytes-on}
+use Rattle.admission.specs.Tables.{slotTable}
+use Rattle.admission.proofs.Soundness.{table-is}
 use borrow.Author.Needs.{needs}
 use Rattle.writing.proofs.write.Statement.{statement}
 use Rattle.writing.proofs.write.Tie as tie
 
--- the device at the start, as it is lent, and what RANGE asks
-abbrev came : tie.Start → Lent
-came c = lent (mediaOf (c .args .media .now) (c .args .sizes .now)) (c .args .frames .now) (c .args .state .now)
+-- the device at the start, as it is borrowed, and what RANGE asks
+abbrev came : tie.Start → Borrowed
+came c = borrowed (mediaOf (c .args .media .now) (c .args .sizes .now)) (c .args .frames .now) (c .args .state .now)
 
 abbrev device : tie.Start → Device
 device c = deviceIn (came c)
@@ -40,18 +40,18 @@ abbrev call : tie.Start → Device → Result Device
 call c = write pagesPerFile (c .args .file) (c .args .position) (c .args .bytes .now)
 
 told : (c : tie.After-admit) → let s = c .before .before .before .before .before .before .before .before .before in
-    coded (c .admit .result) ≡ firstRefusal (lentTests pagesPerFile (came s) (s .args .file) (range s)) (done 0)
+    coded (c .admit .result) ≡ firstRefusal (borrowedTests pagesPerFile (came s) (s .args .file) (range s)) (done 0)
 told c =
     let s = c .before .before .before .before .before .before .before .before .before in
-    c .admit .ensures .0 _ _ refl refl ∙ ap (λ (b : Bool). firstRefusal (lentTests pagesPerFile (came s) (s .args .file) b) (done 0)) (c .before .before .before .sum-fits .ensures)
+    c .admit .ensures .0 _ _ refl refl ∙ ap (λ (b : Bool). firstRefusal (borrowedTests pagesPerFile (came s) (s .args .file) b) (done 0)) (c .before .before .before .sum-fits .ensures)
 
 -- what `admit` has tested
 ready : (c : tie.After-enum-told) → let s = c .before .before .before .before .before .before .before .before .before .before .before in Admitted pagesPerFile (device s) (s .args .file) (range s)
-ready c = let s = c .before .before .before .before .before .before .before .before .before .before .before in lent-ready pagesPerFile (came s) _ (range s) (c .before .before .admit .result) (told (c .before .before)) _ (c .enum-told .given .1)
+ready c = let s = c .before .before .before .before .before .before .before .before .before .before .before in borrowed-ready pagesPerFile (came s) _ (range s) (c .before .before .admit .result) (told (c .before .before)) _ (c .enum-told .given .1)
 
 all : (c : tie.After-enum-told) → let s = c .before .before .before .before .before .before .before .before .before .before .before in
     (length (s .args .state .now) ≡ stateBytes) × (passed (fileTests pagesPerFile (device s) (s .args .file) (range s)) ≡ true)
-all c = let s = c .before .before .before .before .before .before .before .before .before .before .before in lent-passed pagesPerFile (came s) _ (range s) (c .before .before .admit .result) (told (c .before .before)) _ (c .enum-told .given .1)
+all c = let s = c .before .before .before .before .before .before .before .before .before .before .before in borrowed-passed pagesPerFile (came s) _ (range s) (c .before .before .admit .result) (told (c .before .before)) _ (c .enum-told .given .1)
 
 in-limits : (c : tie.After-enum-told) → let s = c .before .before .before .before .before .before .before .before .before .before .before in s .args .position + length (s .args .bytes .now) ≤ fileBytes pagesPerFile
 in-limits c = leb-true _ _ (ready c .in-range)
@@ -81,8 +81,8 @@ sum-fits-requires c κs = search needs
 admit-requires : tie.Need-admit-requires
 admit-requires c κs = search needs
 
-enum-known-admission : tie.Need-enum-known-admission
-enum-known-admission c = search needs
+enum-known-admitted : tie.Need-enum-known-admitted
+enum-known-admitted c = search needs
 
 enum-told : tie.Need-enum-told
 enum-told c = search needs
@@ -133,8 +133,8 @@ returns-3 : tie.Need-returns-3
 returns-3 c =
     let b = c .before .before .before in
     let s = c .before .before .before .before .before .before .before .before .before .before .before .before in
-    let x = c .before .admission .given .0 .0 in
-    let r = lent-refused pagesPerFile (came s) (s .args .file) (range s) (b .admit .result) (told b) x (c .before .admission .given .1) in
+    let x = c .before .admitted .given .0 .0 in
+    let r = borrowed-refused pagesPerFile (came s) (s .args .file) (range s) (b .admit .result) (told b) x (c .before .admitted .given .1) in
     refused-on (call s) (came s) _ x r (are-bytes _ (c .before .before .before .before .before .before .before .before .slice-known2 .given)) (write-refused pagesPerFile (s .args .file) (s .args .position) (s .args .bytes .now) (device s) x)
 
 same-length-5 : tie.Need-same-length-5
@@ -160,7 +160,7 @@ write-spec =
     mul-sum-fits
     sum-fits-requires
     admit-requires
-    enum-known-admission
+    enum-known-admitted
     enum-told
     same-length
     returns
