@@ -219,8 +219,8 @@ module _ (bytes : List ℕ) where
           pub enter-used : getD table (pagesPerFile * file + page) 0 ≡ slotCount → Passed bytes (set table (pagesPerFile * file + page) k) (k + 1)
           enter-used e = passed-used table k x hk (usedSlot file page) used ranged refl e
 
-          pub find-twice : getD table (pagesPerFile * file + page) 0 ≢ slotCount → slotsPass bytes ≡ false
-          find-twice ne = passed-twice table k x hk (usedSlot file page) used ranged refl ne
+          pub enter-twice : getD table (pagesPerFile * file + page) 0 ≢ slotCount → slotsPass bytes ≡ false
+          enter-twice ne = passed-twice table k x hk (usedSlot file page) used ranged refl ne
 
         pub enter-page : pagesPerFile ≤ page → slotsPass bytes ≡ false
         unfolding inRange

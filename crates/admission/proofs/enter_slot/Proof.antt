@@ -7,7 +7,7 @@ use borrow.Author.Tests.{eqb-true, eqb-false}
 use Rattle.state_bytes.specs.Encoding.{slotWord}
 use Rattle.state_bytes.proofs.InPlace.{slot-read}
 use Rattle.admission.specs.Tables.{Passed}
-use Rattle.admission.proofs.Pass.{enter-used, find-twice, enter-page, enter-file, enter-zero, enter-nonzero}
+use Rattle.admission.proofs.Pass.{enter-used, enter-twice, enter-page, enter-file, enter-zero, enter-nonzero}
 use borrow.Author.Needs.{needs}
 use Rattle.admission.proofs.enter_slot.Statement.{statement}
 use Rattle.admission.proofs.enter_slot.Tie as tie
@@ -66,7 +66,7 @@ returns c =
     let s = c .before .before .before .before .before .before .before .before .before in
     let a = s .args in
     let e = c .widen .ensures in
-    (λ q. enter-used (a .state .now) (a .table .now) (a .k) (passed s) (omega arith) (omega arith) (omega arith) (omega arith) (sym e ∙ eqb-true _ _ q), λ q. find-twice (a .state .now) (a .table .now) (a .k) (passed s) (omega arith) (omega arith) (omega arith) (omega arith) (λ h. eqb-false _ _ q (e ∙ h)))
+    (λ q. enter-used (a .state .now) (a .table .now) (a .k) (passed s) (omega arith) (omega arith) (omega arith) (omega arith) (sym e ∙ eqb-true _ _ q), λ q. enter-twice (a .state .now) (a .table .now) (a .k) (passed s) (omega arith) (omega arith) (omega arith) (omega arith) (λ h. eqb-false _ _ q (e ∙ h)))
 
 returns-2 : tie.Need-returns-2
 returns-2 c =
