@@ -1,15 +1,15 @@
 -- Laws of plans.
 use mathlib.Core.Path.{_≡_, refl, ap, _∙_}
 use mathlib.Core.Logic.{_≢_}
-use mathlib.Core.Bool.{Bool, true, false}
+use mathlib.Core.Bool.{Bool, true, false, cond, _&&_, false≢true}
 use mathlib.Core.List.{List, [], _∷_, _++_}
 use Prim.Native.Nat.{ℕ, zero, suc, _+_, _-_, _≤_, _<_}
 use native.Mathlib.Nat.{suc-sub-suc, sub-zero}
 use native.Mathlib.Omega.{arith}
-use lib.Dec.{leb}
+use lib.Dec.{ltb, leb}
 use lib.ListN.{length, take, length-append}
 use lib.Seq.{take-nil, take-all}
-use borrow.Author.Tests.{lt-ltb, le-ltb, le-leb, lt-leb}
+use borrow.Author.Tests.{lt-ltb, le-ltb, ltb-true, ltb-false, le-leb, lt-leb}
 use Rattle.answer.specs.Coded.{done, CUT}
 use Rattle.answer.specs.Admission.{Test, test, firstRefusal}
 use Rattle.answer.proofs.Admission.{passed}
@@ -49,14 +49,6 @@ unfolding writeIf
 at-most-one true w = omega arith
 at-most-one false w = omega arith
 
-pub write-needed : (b : Bool) (w : MediaWrite) → b ≡ true → writeIf b w ≡ w ∷ []
-unfolding writeIf
-write-needed b w e = rw e
-
-pub write-unneeded : (b : Bool) (w : MediaWrite) → b ≡ false → writeIf b w ≡ []
-unfolding writeIf
-write-unneeded b w e = rw e
-
 -- ---- a plan under a budget: cut, or done
 
 module _ (P budget : ℕ) (plan : List MediaWrite) (s : CacheState) (d : Device) where
@@ -80,16 +72,22 @@ take-join zero (x ∷ xs) ys = let z : zero - length (x ∷ xs) ≡ 0 = omega ar
 take-join (suc b) (x ∷ xs) ys = rw suc-sub-suc (ap (λ l. x ∷ l) (take-join b xs ys))
 
 module _ (P budget : ℕ) (m : Media) (needed : ℕ) where
-  -- the part is one write, which the budget pays for or not; or it is none
-  module _ (ws : List MediaWrite) where
-    pub spent-paid : (w : MediaWrite) (c : Media) → ws ≡ w ∷ [] → needed < budget → c ≡ apply P m w → Spent P budget m needed (needed + 1) ws c
-    spent-paid w c e h ec = record { count = rw e; media = rw (e, take-all (budget - needed) (w ∷ []) (omega arith)) ec }
+  pub spent-none : (ws : List MediaWrite) → ws ≡ [] → Spent P budget m needed needed ws m
+  spent-none ws e = record { count = rw e (omega arith); media = rw (e, take-nil) }
 
-    pub spent-unpaid : (w : MediaWrite) → ws ≡ w ∷ [] → budget ≤ needed → Spent P budget m needed (needed + 1) ws m
-    spent-unpaid w e h = record { count = rw e; media = let q : budget - needed ≡ 0 = omega arith in rw q }
+  -- a write that may be wanted: it is made where the budget pays for it too, and is counted where it is wanted
+  pub spent-made : (b : Bool) (w : MediaWrite) (n : ℕ) (c : Media) → b && ltb needed budget ≡ true → n ≡ needed + cond b 1 0 → c ≡ apply P m w
+      → Spent P budget m needed n (writeIf b w) c
+  unfolding writeIf
+  spent-made true w n c h en ec =
+      let l : needed < budget = ltb-true needed budget h in record { count = en; media = rw (take-all (budget - needed) (w ∷ []) (omega arith)) ec }
+  spent-made false w n c h en ec = absurd (false≢true h)
 
-    pub spent-none : ws ≡ [] → Spent P budget m needed needed ws m
-    spent-none e = record { count = rw e (omega arith); media = rw (e, take-nil) }
+  pub spent-unmade : (b : Bool) (w : MediaWrite) (n : ℕ) → b && ltb needed budget ≡ false → n ≡ needed + cond b 1 0
+      → Spent P budget m needed n (writeIf b w) m
+  unfolding writeIf
+  spent-unmade true w n h en = let q : budget - needed ≡ 0 = omega (arith, ltb-false needed budget h) in record { count = en; media = rw q }
+  spent-unmade false w n h en = record { count = en; media = rw take-nil }
 
   -- one part after another
   pub spent-join : (c e : Media) (n k : ℕ) (ws vs : List MediaWrite) → Spent P budget m needed n ws c → Spent P budget c n k vs e → Spent P budget m needed k (ws ++ vs) e

@@ -1,4 +1,4 @@
--- How a sync on the bytes of a state ends: refused, cut or done.
+-- How the calls end: a sync on the bytes of a state, refused, cut or done; an admitted mount and format.
 use mathlib.Core.Path.{_≡_}
 use mathlib.Core.Bool.{true}
 use mathlib.Core.List.{List}
@@ -9,17 +9,22 @@ use Rattle.answer.specs.declared.Refusal.{Refusal}
 use Rattle.answer.specs.Coded.{done, CUT, codedRefusal}
 use Rattle.answer.specs.Admission.{firstRefusal}
 use Rattle.answer.proofs.Admission.{passed}
+use Rattle.memory.specs.Bytes.{zeros}
+use Rattle.media.specs.Geometry.{files}
 use Rattle.media.specs.Write.{Media}
-use Rattle.device.specs.Device.{deviceOf, downState}
-use Rattle.device.specs.Admission.{give, fileTests}
-use Rattle.device.specs.Plan.{budgeted, Spent}
+use Rattle.device.specs.Device.{Device, deviceOf, downState, mountedState}
+use Rattle.device.specs.Admission.{give, fileTests, mediaShape, mountTests}
+use Rattle.device.specs.Plan.{budgeted, underBudget, Spent}
 use Rattle.device.specs.Syncing.{syncPlan, syncedState, sync}
-use Rattle.device.proofs.Admission.{admit-refused}
+use Rattle.device.specs.Mounting.{mount, format}
+use Rattle.device.proofs.Admission.{admit-refused, admit-passed}
 use Rattle.device.proofs.Plan.{plan-ends}
 use Rattle.state_bytes.specs.Encoding.{stateBytes, encode, decode}
 use Rattle.state_bytes.specs.Inverse.{areBytes}
 use Rattle.state_bytes.specs.InPlace.{Borrowed, borrowed, deviceIn, borrowedTests, onBytes}
 use Rattle.state_bytes.proofs.OnBytes.{refused-on, state-on, bytes-on}
+use Rattle.writeback.specs.Trims.{trimsTo}
+use Rattle.writeback.proofs.Trimming.{mount-trims, format-trims}
 
 module _ (P f budget : ℕ) (l : Borrowed) where
   pub refused-ends : (x : Refusal) → codedRefusal x ≡ firstRefusal (borrowedTests P l f true) (done 0) → areBytes (l .state) ≡ true
@@ -40,3 +45,14 @@ module _ (P f budget : ℕ) (l : Borrowed) where
     pub done-ends : n ≤ budget → (after : List ℕ) → length after ≡ stateBytes → areBytes after ≡ true → decode after ≡ syncedState (decode (l .state)) f
         → give (done n) (borrowed m (l .frames) after) ≡ onBytes (sync P f budget) l
     done-ends k after q small e = bytes-on (sync P f budget) l h (done n) m (l .frames) after q small (rw (le-ltb budget n k, ← e) at ends)
+
+-- the plan of an admitted mount or format, by the sizes that the files get
+module _ (P budget : ℕ) (d : Device) where
+  pub mount-ends : passed (mountTests P (d .media)) ≡ true
+      → underBudget P budget (trimsTo P (d .media) (d .media .sizes)) (mountedState (d .media .sizes)) d ≡ mount P budget d
+  unfolding mount
+  mount-ends h = rw (← mount-trims P (d .media)) (admit-passed (mountTests P (d .media)) d _ h)
+
+  pub format-ends : passed (mediaShape P (d .media)) ≡ true → underBudget P budget (trimsTo P (d .media) (zeros files)) downState d ≡ format P budget d
+  unfolding format
+  format-ends h = rw (← format-trims P (d .media)) (admit-passed (mediaShape P (d .media)) d _ h)

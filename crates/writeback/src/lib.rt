@@ -7,7 +7,7 @@ use answer::Answer;
 use answer::Refusal;
 use device::CacheState;
 ghost use mathlib.Core.Path.{_≡_};
-ghost use mathlib.Core.Bool.{not, _||_};
+ghost use mathlib.Core.Bool.{cond, _&&_};
 ghost use mathlib.Core.List.{List};
 ghost use Prim.Native.Nat.{ℕ, _+_, _≤_, _<_, _^_};
 ghost use lib.ListN.{length, getD};
@@ -15,20 +15,43 @@ ghost use lib.Dec.{eqb, ltb};
 ghost use Rattle.answer.specs.Coded.{coded, CUT};
 ghost use Rattle.memory.specs.Bytes.{part};
 ghost use Rattle.media.specs.Geometry.{files, pagesPerFile, pageBytes, fileBytes, mediaBytes};
-ghost use Rattle.media.specs.Write.{Media, mediaOf, sizeAt, apply};
+ghost use Rattle.media.specs.Write.{mediaOf, apply};
 ghost use Rattle.media.specs.Write.MediaWrite.{page, size, trim};
 ghost use Rattle.scan.specs.Scan.{every};
-ghost use Rattle.device.specs.Device.{Device, slotCount, framesBytes, frameStart, downState};
+ghost use Rattle.device.specs.declared.CacheState.{CacheState};
+ghost use Rattle.device.specs.Device.{Device, deviceOf, slotCount, framesBytes, frameStart, downState};
 ghost use Rattle.device.specs.Admission.{give};
-ghost use Rattle.device.specs.Plan.{writeIf, budgeted, Spent};
+ghost use Rattle.device.specs.Plan.{writeIf, underBudget, Spent};
 ghost use Rattle.device.specs.Syncing.{pageWrites, syncPlan, syncedState, sync};
-ghost use Rattle.device.specs.Mounting.{nonzeroFrom, mountPlan, mount, formatPlan, format};
+ghost use Rattle.device.specs.Mounting.{nonzeroFrom, mount, format};
 ghost use Rattle.state_bytes.specs.Encoding.{stateBytes, encode, decode};
 ghost use Rattle.state_bytes.specs.InPlace.{borrowed, inBytes, onBytes};
-ghost use Rattle.admission.specs.Tables.{slotTable};
 ghost use Rattle.media.specs.Moments.{mediaAtEntry, mediaAtExit};
 ghost use Rattle.device.specs.Moments.{deviceAtEntry};
 ghost use Rattle.state_bytes.specs.Moments.{borrowedAtEntry, borrowedAtExit};
+ghost use Rattle.admission.specs.Tables.{slotTable};
+ghost use Rattle.writeback.specs.Trims.{needsTrim, trimsTo};
+
+// Whether a media write is made: it is wanted, and the budget pays for it after those needed before it.
+fn is_made(wanted: bool, needed: usize, budget: usize) -> bool
+    ensures { λ r. ⌜ r ≡ wanted && ltb needed budget ⌝ }
+{
+    if wanted {
+        return needed < budget;
+    }
+    false
+}
+
+// The number of media writes needed, with one that may be wanted.
+fn with_one(wanted: bool, needed: usize) -> usize
+    requires { ⌜ needed < 2 ^ 32 ⌝ }
+    ensures { λ r. ⌜ r ≡ needed + cond wanted 1 0 ⌝ }
+{
+    if wanted {
+        return needed + 1;
+    }
+    needed
+}
 
 // TRIM, if it is wanted and the budget pays. The number of writes needed so far comes back, with this one.
 fn trim_if(
@@ -45,14 +68,11 @@ fn trim_if(
     ensures { λ r. ⌜ Spent pagesPerFile budget (mediaAtEntry media sizes) needed r
         (writeIf wanted (trim file n)) (mediaAtExit media sizes) ⌝ }
 {
-    if wanted {
-        if needed < budget {
-            media::trim(media, sizes, file, n);
-            return needed + 1;
-        }
-        return needed + 1;
+    if is_made(wanted, needed, budget) {
+        media::trim(media, sizes, file, n);
+        return with_one(wanted, needed);
     }
-    needed
+    with_one(wanted, needed)
 }
 
 // PAGE: the bytes of slot k replace one page of the media.
@@ -86,14 +106,12 @@ fn page_if(
         (writeIf (ltb k slotCount) (page file number (part (now (frames .entry)) (frameStart k) pageBytes)))
         (mediaOf (now (media .exit)) stored)) ⌝ }
 {
-    if k < device::SLOTS {
-        if needed < budget {
-            write_frame(media, frames, file, number, k, media::PAGES_PER_FILE);
-            return needed + 1;
-        }
-        return needed + 1;
+    let cached = k < device::SLOTS;
+    if is_made(cached, needed, budget) {
+        write_frame(media, frames, file, number, k, media::PAGES_PER_FILE);
+        return with_one(cached, needed);
     }
-    needed
+    with_one(cached, needed)
 }
 
 // The cached pages of a file, ascending, each if the budget pays. The table has their slots. The number of writes needed so far
@@ -140,14 +158,11 @@ fn size_if(
     ensures { λ r. ⌜ Spent pagesPerFile budget (mediaAtEntry media sizes) needed r
         (writeIf wanted (size file n)) (mediaAtExit media sizes) ⌝ }
 {
-    if wanted {
-        if needed < budget {
-            media::write_size(media, sizes, file, n);
-            return needed + 1;
-        }
-        return needed + 1;
+    if is_made(wanted, needed, budget) {
+        media::write_size(media, sizes, file, n);
+        return with_one(wanted, needed);
     }
-    needed
+    with_one(wanted, needed)
 }
 
 // The writes of a sync, as many as the budget pays for: TRIM, the pages, SIZE. The number needed comes back.
@@ -234,20 +249,6 @@ pub fn sync(
     }
 }
 
-// The end of a mount or a format that needed so many media writes: done with their number, and the bytes of this state; or CUT, which
-// leaves the device down.
-fn finish(state: &mut [u8], writes: usize, budget: usize, cache: CacheState) -> Answer
-    requires { ⌜ length (now state) ≡ stateBytes ⌝ }
-    ensures { λ r. ⌜ ((m : Media) (frames : List ℕ) → give (coded r) (borrowed m frames (now (state .exit)))
-        ≡ inBytes (budgeted budget writes m frames cache)) ⌝ }
-{
-    if budget < writes {
-        return cut(state, budget);
-    }
-    state_bytes::encode(cache, state);
-    Answer::Done(writes)
-}
-
 // Whether all bytes are 0. A page at a time, since a loop of a known length is faster.
 fn all_zero_by_pages(bytes: &[u8]) -> bool
     ensures { λ r. ⌜ r ≡ every (λ b. eqb b 0) (now (bytes .entry)) ⌝ }
@@ -274,39 +275,63 @@ fn nonzero_from(media: &[u8], file: usize, n: usize) -> bool
     !all_zero_by_pages(&media[from..end])
 }
 
-// One file of a mount: TRIM to its stored size, where a byte at or past it is nonzero.
-fn mount_file(
-    media: &mut [u8],
-    sizes: &mut [u32],
-    file: usize,
-    budget: usize,
-    needed: usize,
-) -> usize
+// Whether a file has a nonzero byte at or past n, or another stored size than n.
+fn needs_trim(media: &[u8], sizes: &[u32], file: usize, n: usize) -> bool
     requires { ⌜ (length (now media) ≡ mediaBytes pagesPerFile) × (length (now sizes) ≡ files) × (file < files)
-        × (getD (now sizes) file 0 ≤ fileBytes pagesPerFile) × (needed < 2 ^ 32) ⌝ }
-    ensures { λ r. ⌜ Spent pagesPerFile budget (mediaAtEntry media sizes) needed r
-        (writeIf (nonzeroFrom pagesPerFile (mediaAtEntry media sizes) file (sizeAt (mediaAtEntry media sizes) file))
-        (trim file (sizeAt (mediaAtEntry media sizes) file))) (mediaAtExit media sizes) ⌝ }
+        × (n ≤ fileBytes pagesPerFile) ⌝ }
+    ensures { λ r. ⌜ r ≡ needsTrim pagesPerFile (mediaAtEntry media sizes) file n ⌝ }
 {
-    let n = sizes[file] as usize;
-    let wanted = nonzero_from(media, file, n);
-    trim_if(media, sizes, file, n, wanted, budget, needed)
+    let stored = sizes[file] as usize;
+    if stored != n {
+        return true;
+    }
+    nonzero_from(media, file, n)
 }
 
-// The TRIMs of a mount, as many as the budget pays for. The number needed comes back.
-fn mount_files(media: &mut [u8], sizes: &mut [u32], budget: usize) -> usize
+// The TRIMs that give each file its size in a list, as many as the budget pays for. The number needed comes back.
+fn trim_files(
+    media: &mut [u8],
+    sizes: &mut [u32],
+    targets: &[u32; media::FILES],
+    budget: usize,
+) -> usize
     requires { ⌜ (length (now media) ≡ mediaBytes pagesPerFile) × (length (now sizes) ≡ files)
-        × ((f : ℕ) → f < files → getD (now sizes) f 0 ≤ fileBytes pagesPerFile) ⌝ }
+        × ((f : ℕ) → f < files → (getD (now targets) f 0 ≤ getD (now sizes) f 0) × (getD (now targets) f 0 ≤ fileBytes pagesPerFile)) ⌝ }
     ensures { λ r. ⌜ Spent pagesPerFile budget (mediaAtEntry media sizes) 0 r
-        (mountPlan pagesPerFile (mediaAtEntry media sizes)) (mediaAtExit media sizes) ⌝ }
+        (trimsTo pagesPerFile (mediaAtEntry media sizes) (now (targets .entry))) (mediaAtExit media sizes) ⌝ }
 {
     let mut needed = 0;
     let mut f = 0;
     while f < media::FILES {
-        needed = mount_file(media, sizes, f, budget, needed);
+        let n = targets[f] as usize;
+        let wanted = needs_trim(media, sizes, f, n);
+        needed = trim_if(media, sizes, f, n, wanted, budget, needed);
         f += 1;
     }
     needed
+}
+
+// A mount or a format that is admitted: each file gets its size in the list, and the state becomes this one; or it is CUT.
+fn restart(
+    media: &mut [u8],
+    sizes: &mut [u32],
+    state: &mut [u8],
+    targets: &[u32; media::FILES],
+    cache: CacheState,
+    budget: usize,
+) -> Answer
+    requires { ⌜ (length (now media) ≡ mediaBytes pagesPerFile) × (length (now sizes) ≡ files) × (length (now state) ≡ stateBytes)
+        × ((f : ℕ) → f < files → (getD (now targets) f 0 ≤ getD (now sizes) f 0) × (getD (now targets) f 0 ≤ fileBytes pagesPerFile)) ⌝ }
+    ensures { λ r. ⌜ ((frames : List ℕ) (c : CacheState) → give (coded r) (borrowed (mediaAtExit media sizes) frames (now (state .exit)))
+        ≡ inBytes (underBudget pagesPerFile budget (trimsTo pagesPerFile (mediaAtEntry media sizes) (now (targets .entry))) cache
+        (deviceOf (mediaAtEntry media sizes) frames c))) ⌝ }
+{
+    let trims = trim_files(media, sizes, targets, budget);
+    if budget < trims {
+        return cut(state, budget);
+    }
+    state_bytes::encode(cache, state);
+    Answer::Done(trims)
 }
 
 // The stored sizes, by value.
@@ -334,38 +359,10 @@ pub fn mount(media: &mut [u8], sizes: &mut [u32], state: &mut [u8], budget: usiz
         Answer::Refused(refusal) => Answer::Refused(refusal),
         Answer::Done(_) => {
             let found = sizes_array(sizes);
-            let trims = mount_files(media, sizes, budget);
-            finish(state, trims, budget, admission::mounted_state(found))
+            let up = admission::mounted_state(found);
+            restart(media, sizes, state, &found, up, budget)
         }
     }
-}
-
-// Whether a file has a nonzero byte or a nonzero stored size.
-fn needs_format(media: &[u8], sizes: &[u32], file: usize) -> bool
-    requires { ⌜ (length (now media) ≡ mediaBytes pagesPerFile) × (length (now sizes) ≡ files) × (file < files) ⌝ }
-    ensures { λ r. ⌜ r ≡ nonzeroFrom pagesPerFile (mediaAtEntry media sizes) file 0
-        || not (eqb (sizeAt (mediaAtEntry media sizes) file) 0) ⌝ }
-{
-    if sizes[file] != 0 {
-        return true;
-    }
-    nonzero_from(media, file, 0)
-}
-
-// The TRIMs of a format, as many as the budget pays for. The number needed comes back.
-fn format_files(media: &mut [u8], sizes: &mut [u32], budget: usize) -> usize
-    requires { ⌜ (length (now media) ≡ mediaBytes pagesPerFile) × (length (now sizes) ≡ files) ⌝ }
-    ensures { λ r. ⌜ Spent pagesPerFile budget (mediaAtEntry media sizes) 0 r
-        (formatPlan pagesPerFile (mediaAtEntry media sizes)) (mediaAtExit media sizes) ⌝ }
-{
-    let mut needed = 0;
-    let mut f = 0;
-    while f < media::FILES {
-        let wanted = needs_format(media, sizes, f);
-        needed = trim_if(media, sizes, f, 0, wanted, budget, needed);
-        f += 1;
-    }
-    needed
 }
 
 // Format: empties all files, by TRIM to 0. The device is down after it, done or cut. Of the state that comes in only the length is
@@ -378,8 +375,8 @@ pub fn format(media: &mut [u8], sizes: &mut [u32], state: &mut [u8], budget: usi
     match admitted {
         Answer::Refused(refusal) => Answer::Refused(refusal),
         Answer::Done(_) => {
-            let trims = format_files(media, sizes, budget);
-            finish(state, trims, budget, device::down_state())
+            let empty = [0u32; media::FILES];
+            restart(media, sizes, state, &empty, device::down_state(), budget)
         }
     }
 }

@@ -3,21 +3,23 @@ use mathlib.Core.Path.{_≡_, refl, ap, _∙_}
 use mathlib.Core.Bool.{true}
 use mathlib.Core.List.{List, []}
 use Prim.Native.Nat.{ℕ}
+use native.Mathlib.Omega.{arith}
 use lib.ListN.{length}
 use borrow.Author.Needs.{needs}
 use Rattle.answer.specs.declared.Answer.the-variants.{Refused}
 use Rattle.answer.proofs.Coded.{coded-of}
 use Rattle.answer.proofs.Admission.{passed}
-use Rattle.media.specs.Geometry.{pagesPerFile}
+use Rattle.memory.proofs.Bytes.{getD-zeros}
+use Rattle.media.specs.Geometry.{files, pagesPerFile}
 use Rattle.media.specs.Write.{Media, mediaOf}
 use Rattle.device.specs.Admission.{mediaShape}
-use Rattle.device.specs.Mounting.{formatPlan, format}
+use Rattle.device.specs.Mounting.{format}
 use Rattle.device.proofs.Admission.{admit-refused, shape-refusing, shape-admitted}
-use Rattle.device.proofs.Plan.{plan-ends}
-use Rattle.state_bytes.specs.Encoding.{stateBytes}
+use Rattle.state_bytes.specs.Encoding.{stateBytes, decode}
 use Rattle.state_bytes.specs.InPlace.{Borrowed, borrowed, deviceIn, inBytes}
 use Rattle.state_bytes.proofs.Inverse.{are-bytes}
 use Rattle.state_bytes.proofs.OnBytes.{shape-passed, refused-on, length-on}
+use Rattle.writeback.proofs.Ends.{format-ends}
 use Rattle.writeback.proofs.format.Statement.{statement}
 use Rattle.writeback.proofs.format.Tie as tie
 
@@ -43,14 +45,14 @@ enum-known-admitted c = search needs
 enum-told : tie.Need-enum-told
 enum-told c = search needs
 
-format-files-requires : tie.Need-format-files-requires
-format-files-requires c κs = let t = c .before .before in shape-admitted pagesPerFile (deviceIn (came (start t) [])) (all t .1)
-
 down-state-requires : tie.Need-down-state-requires
 down-state-requires c κs = search needs
 
-finish-requires : tie.Need-finish-requires
-finish-requires c κs = all (c .before .before .before .before .before .before .before .before .before) .0
+restart-requires : tie.Need-restart-requires
+restart-requires c κs =
+    let t = c .before .before .before .before .before in
+    let ok = shape-admitted pagesPerFile (deviceIn (came (start t) [])) (all t .1) in
+    (ok .0, ok .1, all t .0, λ f hf. rw (getD-zeros files f) (omega arith, omega arith))
 
 same-length : tie.Need-same-length
 same-length c = search needs
@@ -78,17 +80,14 @@ same-length-5 : tie.Need-same-length-5
 same-length-5 c = search needs
 
 returns-2 : tie.Need-returns-2
-unfolding format
 returns-2 c =
-    let w = c .before .before .before .before .before .before .before .before .before in
-    let t = w .before .before .before in
+    let w = c .before .before .before .before .before .before in
+    let t = w .before .before .before .before .before .before in
     let s = start t in
     λ frames.
     let l = came s frames in
-    c .before .before .finish .ensures _ frames
-    ∙ rw (c .before .before .before .down-state .ensures)
-    (ap inBytes
-    (plan-ends pagesPerFile (s .args .budget) (formatPlan pagesPerFile (media-of s)) _ (deviceIn l) (w .format-files .result) _ (w .format-files .ensures) (mediaShape pagesPerFile (media-of s)) (all t .1)))
+    w .restart .ensures frames (decode (s .args .state .now))
+    ∙ rw (w .before .down-state .ensures) (ap inBytes (format-ends pagesPerFile (s .args .budget) (deviceIn l) (all t .1)))
     ∙ length-on (format pagesPerFile (s .args .budget)) l (all t .0)
 
 pub format-spec : {M : Type 1} → statement M
@@ -98,9 +97,8 @@ format-spec =
     admit-format-requires
     enum-known-admitted
     enum-told
-    format-files-requires
     down-state-requires
-    finish-requires
+    restart-requires
     same-length
     same-length-2
     returns

@@ -3,6 +3,7 @@ use mathlib.Core.Path.{_≡_, refl, ap, _∙_}
 use mathlib.Core.Bool.{true}
 use mathlib.Core.List.{List, []}
 use Prim.Native.Nat.{ℕ}
+use native.Mathlib.Omega.{arith}
 use lib.ListN.{length}
 use borrow.Author.Needs.{needs}
 use Rattle.answer.specs.declared.Answer.the-variants.{Refused}
@@ -11,13 +12,13 @@ use Rattle.answer.proofs.Admission.{passed}
 use Rattle.media.specs.Geometry.{pagesPerFile}
 use Rattle.media.specs.Write.{Media, mediaOf}
 use Rattle.device.specs.Admission.{mountTests}
-use Rattle.device.specs.Mounting.{mountPlan, mount}
+use Rattle.device.specs.Mounting.{mount}
 use Rattle.device.proofs.Admission.{Mountable, admit-refused, mount-refusing, mount-admitted}
-use Rattle.device.proofs.Plan.{plan-ends}
-use Rattle.state_bytes.specs.Encoding.{stateBytes}
+use Rattle.state_bytes.specs.Encoding.{stateBytes, decode}
 use Rattle.state_bytes.specs.InPlace.{Borrowed, borrowed, deviceIn, inBytes}
 use Rattle.state_bytes.proofs.Inverse.{are-bytes}
 use Rattle.state_bytes.proofs.OnBytes.{shape-passed, refused-on, length-on}
+use Rattle.writeback.proofs.Ends.{mount-ends}
 use Rattle.writeback.proofs.mount.Statement.{statement}
 use Rattle.writeback.proofs.mount.Tie as tie
 
@@ -49,14 +50,15 @@ enum-told c = search needs
 sizes-array-requires : tie.Need-sizes-array-requires
 sizes-array-requires c κs = ready (c .before) .sizes
 
-mount-files-requires : tie.Need-mount-files-requires
-mount-files-requires c κs = let ok = ready (c .before .before .before .before) in (ok .bytes, ok .sizes, ok .fit)
-
 mounted-state-requires : tie.Need-mounted-state-requires
 mounted-state-requires c κs = search needs
 
-finish-requires : tie.Need-finish-requires
-finish-requires c κs = all (c .before .before .before .before .before .before .before .before .before .before .before) .0
+restart-requires : tie.Need-restart-requires
+restart-requires c κs =
+    let z = c .before .before .before .before .before in
+    let t = z .before .before in
+    let ok = ready t in
+    (ok .bytes, ok .sizes, all t .0, λ f hf. rw (z .sizes-array .ensures) (omega arith, ok .fit f hf))
 
 same-length : tie.Need-same-length
 same-length c = search needs
@@ -84,18 +86,16 @@ same-length-5 : tie.Need-same-length-5
 same-length-5 c = search needs
 
 returns-2 : tie.Need-returns-2
-unfolding mount
 returns-2 c =
-    let w = c .before .before .before .before .before .before .before .before .before in
-    let z = w .before .before .before in
+    let w = c .before .before .before .before .before .before in
+    let u = w .before .before .before .before .before in
+    let z = u .before in
     let t = z .before .before in
     let s = start t in
     λ frames.
     let l = came s frames in
-    c .before .before .finish .ensures _ frames
-    ∙ rw (c .before .before .before .mounted-state .ensures, z .sizes-array .ensures)
-    (ap inBytes
-    (plan-ends pagesPerFile (s .args .budget) (mountPlan pagesPerFile (media-of s)) _ (deviceIn l) (w .mount-files .result) _ (w .mount-files .ensures) (mountTests pagesPerFile (media-of s)) (all t .1)))
+    w .restart .ensures frames (decode (s .args .state .now))
+    ∙ rw (u .mounted-state .ensures, z .sizes-array .ensures) (ap inBytes (mount-ends pagesPerFile (s .args .budget) (deviceIn l) (all t .1)))
     ∙ length-on (mount pagesPerFile (s .args .budget)) l (all t .0)
 
 pub mount-spec : {M : Type 1} → statement M
@@ -106,9 +106,8 @@ mount-spec =
     enum-known-admitted
     enum-told
     sizes-array-requires
-    mount-files-requires
     mounted-state-requires
-    finish-requires
+    restart-requires
     same-length
     same-length-2
     returns

@@ -1,4 +1,4 @@
--- `writeback::trim_if` meets its contract: a TRIM within the limits is done as the plan says; `Spent` has a law for each end.
+-- `writeback::trim_if` meets its contract: a TRIM within the limits is made as the plan says.
 use mathlib.Core.Path.{sym, _∙_}
 use native.Mathlib.Omega.{arith}
 use borrow.Author.Needs.{needs}
@@ -6,18 +6,21 @@ use Rattle.media.specs.Geometry.{pagesPerFile}
 use Rattle.media.specs.Write.{Media, mediaOf}
 use Rattle.media.specs.Write.MediaWrite.{trim}
 use Rattle.media.proofs.Direct.{trim-applied}
-use Rattle.device.proofs.Plan.{spent-paid, spent-unpaid, spent-none, write-needed, write-unneeded}
+use Rattle.device.proofs.Plan.{spent-made, spent-unmade}
 use Rattle.writeback.proofs.trim_if.Statement.{statement}
 use Rattle.writeback.proofs.trim_if.Tie as tie
 
 abbrev media-of : tie.Start → Media
 media-of s = mediaOf (s .args .media .now) (s .args .sizes .now)
 
+is-made-requires : tie.Need-is-made-requires
+is-made-requires c κs = search needs
+
 trim-requires : tie.Need-trim-requires
 trim-requires c κs = search needs
 
-add-result : tie.Need-add-result
-add-result c = search needs
+with-one-requires : tie.Need-with-one-requires
+with-one-requires c κs = search needs
 
 same-length : tie.Need-same-length
 same-length c = search needs
@@ -27,37 +30,32 @@ same-length-2 c = search needs
 
 returns : tie.Need-returns
 returns c =
-    let p = c .before .before .before .before in
-    let t = p .before .before .before .before in
-    let s = t .before .before .before in
+    let t = c .before .before .before .before .before in
+    let i = t .before .before .before .before in
+    let s = i .before .before .before in
     let a = s .args in
-    spent-paid pagesPerFile (a .budget) (media-of s) (a .needed) _ (trim (a .file) (a .n)) _ (write-needed _ _ (t .if1 .taken)) (omega arith)
-    (p .trim .ensures .1 ∙ sym (trim-applied pagesPerFile (media-of s) (a .file) (a .n) (record { bytes = omega arith; sizes = omega arith; file = omega arith; range = omega arith }) (omega arith)))
+    spent-made pagesPerFile (a .budget) (media-of s) (a .needed) (a .wanted) (trim (a .file) (a .n)) _ _ (sym (i .is-made .ensures) ∙ t .before .before .before .if1 .taken) (c .with-one .ensures)
+    (t .trim .ensures .1 ∙ sym (trim-applied pagesPerFile (media-of s) (a .file) (a .n) (record { bytes = omega arith; sizes = omega arith; file = omega arith; range = omega arith }) (omega arith)))
 
-add-result-2 : tie.Need-add-result-2
-add-result-2 c = search needs
+with-one-requires-2 : tie.Need-with-one-requires-2
+with-one-requires-2 c κs = search needs
 
 returns-2 : tie.Need-returns-2
 returns-2 c =
-    let s = c .before .before .before .before in
+    let i = c .before .before in
+    let s = i .before .before .before in
     let a = s .args in
-    spent-unpaid pagesPerFile (a .budget) (media-of s) (a .needed) _ (trim (a .file) (a .n)) (write-needed _ _ (c .before .if1 .taken)) (omega arith)
-
-returns-3 : tie.Need-returns-3
-returns-3 c =
-    let s = c .before .before .before in
-    let a = s .args in
-    spent-none pagesPerFile (a .budget) (media-of s) (a .needed) _ (write-unneeded _ _ (c .if1 .left))
+    spent-unmade pagesPerFile (a .budget) (media-of s) (a .needed) (a .wanted) (trim (a .file) (a .n)) _ (sym (i .is-made .ensures) ∙ c .before .if1 .left) (c .with-one2 .ensures)
 
 pub trim-if-spec : {M : Type 1} → statement M
 trim-if-spec =
     tie.close
     (tie.spec
+    is-made-requires
     trim-requires
-    add-result
+    with-one-requires
     same-length
     same-length-2
     returns
-    add-result-2
-    returns-2
-    returns-3)
+    with-one-requires-2
+    returns-2)
