@@ -2,8 +2,8 @@
 // of its own, `look_count`.
 //
 // A call borrows the media (bytes and stored sizes), the page frames, and buffers of its own. Start with `down_state` and a mount.
-// The calls work on the bytes of the state (crates reading, writing and writeback), for callers that keep it so; here these bytes
-// are made and read.
+// The calls work on the bytes of the state, for callers that keep it so; here these bytes are made and read. The crate in brackets
+// has the call, and says what it does.
 pub use answer::Answer;
 pub use answer::Refusal;
 pub use device::CacheState;
@@ -47,8 +47,7 @@ fn bytes_of(cache: CacheState) -> [u8; STATE_BYTES]
     bytes
 }
 
-// Read: copies as many current bytes as the buffer takes, up to the logical size, and answers their number. The rest of the
-// buffer keeps its bytes.
+// Read (reading).
 pub fn read(
     media: &[u8],
     sizes: &[u32],
@@ -67,9 +66,7 @@ pub fn read(
     Outcome { answer, cache }
 }
 
-// Where a look's part lies: in the page frames, or in the media where the page is not cached. It goes from the position to the end
-// of its page, and no further than the logical size, or than the floor where the page is not cached. It is empty on a refusal, at
-// or past the logical size, and in zeros that no buffer has: `look_count` tells which.
+// Where a look's part lies (reading).
 pub fn look_span(
     media: &[u8],
     sizes: &[u32],
@@ -106,8 +103,7 @@ pub fn look<'a>(
     &media[from..end]
 }
 
-// The answer of a look: its refusal, or as count the bytes from the position to the end of its page or to the logical size, the
-// nearer. Where the part that `look` shows is shorter, the rest of them are zeros.
+// The answer of a look (reading).
 pub fn look_count(
     media: &[u8],
     sizes: &[u32],
@@ -125,8 +121,7 @@ pub fn look_count(
     Outcome { answer, cache }
 }
 
-// Write: puts the bytes down page by page, ascending, until a page has no slot, and answers how many: fewer than asked where all
-// slots were taken. NO ROOM where not even the first page has one.
+// Write (writing).
 pub fn write(
     media: &[u8],
     sizes: &[u32],
@@ -147,7 +142,7 @@ pub fn write(
     }
 }
 
-// Truncate: the file has n bytes after it: it is cut, or filled with zeros. The count is 0.
+// Truncate (writing).
 pub fn truncate(
     media: &[u8],
     sizes: &[u32],
@@ -167,7 +162,7 @@ pub fn truncate(
     }
 }
 
-// Sync: stores a file. Its TRIM, its cached pages and its SIZE go to the media; after it its pages are free.
+// Sync (writeback).
 pub fn sync(
     media: &mut [u8],
     sizes: &mut [u32],
@@ -187,8 +182,7 @@ pub fn sync(
     }
 }
 
-// Mount: brings the device up, with no page cached and the stored sizes. Bytes past a stored size are cleared first, by TRIM.
-// The state that comes in is not looked at.
+// Mount (writeback). The state that comes in is not looked at.
 pub fn mount(media: &mut [u8], sizes: &mut [u32], cache: CacheState, budget: usize) -> Outcome
     ensures { λ r. ⌜ ((frames : List ℕ) → give (coded (r .answer)) (deviceOf (mediaAtExit media sizes) frames (r .cache))
         ≡ mount pagesPerFile budget (deviceOf (mediaAtEntry media sizes) frames cache)) ⌝ }
@@ -201,7 +195,7 @@ pub fn mount(media: &mut [u8], sizes: &mut [u32], cache: CacheState, budget: usi
     }
 }
 
-// Format: empties all files, by TRIM to 0. The device is down after it, done or cut. The state that comes in is not looked at.
+// Format (writeback). The state that comes in is not looked at.
 pub fn format(media: &mut [u8], sizes: &mut [u32], cache: CacheState, budget: usize) -> Outcome
     ensures { λ r. ⌜ ((frames : List ℕ) → give (coded (r .answer)) (deviceOf (mediaAtExit media sizes) frames (r .cache))
         ≡ format pagesPerFile budget (deviceOf (mediaAtEntry media sizes) frames cache)) ⌝ }
