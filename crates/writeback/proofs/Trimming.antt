@@ -33,15 +33,15 @@ module _ {P budget : ℕ} {before : Media} {targets : List ℕ} where
   }
 
   module _ {f n : ℕ} {m : Media} (s : Trimming P budget before targets f n m) where
-    pub trimming-next : (k t : ℕ) (c : Media) → t ≡ getD targets f 0 → length (before .bytes) ≡ mediaBytes P → f < files → t ≤ fileBytes P
-        → Spent P budget m n k (writeIf (needsTrim P m f t) (trim f t)) c → Trimming P budget before targets (f + 1) k c
+    pub trimming-next : (k t : ℕ) (c : Media) (b : Bool) → t ≡ getD targets f 0 → length (before .bytes) ≡ mediaBytes P → f < files → t ≤ fileBytes P
+        → b ≡ needsTrim P m f t → Spent P budget m n k (writeIf b (trim f t)) c → Trimming P budget before targets (f + 1) k c
     unfolding needsTrim
-    trimming-next k t c et lb hf hn y =
+    trimming-next k t c b et lb hf hn eb y =
         let needed : ℕ → Bool = λ g. needsTrim P before g (getD targets g 0) in
         let size : ℕ → ℕ = λ g. getD targets g 0 in
         let es : sizeAt m f ≡ sizeAt before f = s .rest .size-of f (omega arith) hf in
         let ez : nonzeroFrom P m f t ≡ nonzeroFrom P before f t = untouched-nonzero P before f m (s .rest) t lb hf hn in
-        let x : Spent P budget m n k (writeIf (needed f) (trim f (size f))) c = rw (es, ez, et) at y in
+        let x : Spent P budget m n k (writeIf (needed f) (trim f (size f))) c = rw (eb, es, ez, et) at y in
         let z : 0 + f ≡ f = omega arith in
         let more : trimsFrom needed size (f + 1) 0 ≡ trimsFrom needed size f 0 ++ writeIf (needed f) (trim f (size f)) = rw z at (trims-more needed size f 0) in
         record {

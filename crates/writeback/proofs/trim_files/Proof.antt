@@ -45,7 +45,7 @@ trim-if-requires c κs =
     let f : ℕ = l .loop .f in
     let hf : f < files = omega arith in
     let e : getD (l .loop .sizes) f 0 ≡ getD (s .args .sizes .now) f 0 = l .loop .inv .0 .rest .size-of f (omega arith) hf in
-    (omega (arith, l .loop .inv .2), omega (arith, l .loop .inv .3), hf, omega (arith, e, s .pre .2 f hf .0), s .pre .2 f hf .1, omega (arith, l .loop .inv .0 .most))
+    (omega (arith, l .loop .inv .2), omega (arith, l .loop .inv .3), hf, omega (arith, e, s .pre .2 f hf .0), omega (arith, s .pre .2 f hf .1), omega (arith, l .loop .inv .0 .most))
 
 add-f : tie.Need-add-f Inv-loop μ-loop
 add-f c = search needs
@@ -60,7 +60,7 @@ loop-again c =
     let l = q .before .before .before .before .before in
     let s = l .before .before .before in
     let hf : l .loop .f < files = omega arith in
-    (trimming-next (l .loop .inv .0) (p .trim-if .result) _ (mediaOf (p .trim-if .last .0) (p .trim-if .last .1 .0)) refl (omega arith) hf (s .pre .2 (l .loop .f) hf .1) (rw (q .needs-trim .ensures) at (p .trim-if .ensures)), omega arith, omega (arith, p .trim-if .kept .0, l .loop .inv .2), omega (arith, p .trim-if .kept .1 .0, l .loop .inv .3))
+    (trimming-next (l .loop .inv .0) (p .trim-if .result) _ (mediaOf (p .trim-if .last .0) (p .trim-if .last .1 .0)) _ refl (omega arith) hf (s .pre .2 (l .loop .f) hf .1) (q .needs-trim .ensures) (p .trim-if .ensures), omega arith, omega (arith, p .trim-if .kept .0, l .loop .inv .2), omega (arith, p .trim-if .kept .1 .0, l .loop .inv .3))
 
 same-length : tie.Need-same-length Inv-loop μ-loop
 same-length c = search needs
