@@ -21,8 +21,9 @@ static void expect(const char *step, uint32_t answer, unsigned number, size_t co
 {
     printf("%-44s %s, count %lu\n", step, boxstore_name(answer), (unsigned long)boxstore_count(answer));
     if (boxstore_number(answer) != number || boxstore_count(answer) != count) {
-        fprintf(stderr, "power_cut: %s: expected %s, count %lu, and not: %s\n", step, boxstore_name(number * BOXSTORE_REFUSED),
-                (unsigned long)count, boxstore_meaning(answer));
+        fprintf(stderr, "power_cut: %s: expected %s, count %lu; got count %lu, and %s: %s\n", step,
+                boxstore_name(number * BOXSTORE_REFUSED), (unsigned long)count, (unsigned long)boxstore_count(answer),
+                boxstore_name(answer), boxstore_meaning(answer));
         exit(1);
     }
 }
