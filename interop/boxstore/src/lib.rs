@@ -43,7 +43,7 @@
 //!
 //! # Without `std`
 //!
-//! The feature `std`, on by default, adds [`Device::read_all`] and no more.
+//! The feature `std`, on by default, adds `Device::read_all` and no more.
 //! With `default-features = false` the crate rests on `core`, and allocates
 //! nothing. A device has its memory inline; a new one is all zeros, so that a
 //! `static` one takes no room in the image of a program:
