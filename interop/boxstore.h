@@ -9,6 +9,8 @@
  *   frames   6,144 bytes    the bytes of the cached pages; slot k has those from 256 * k on
  *   state    137 bytes      the cache state, laid out as said below
  *
+ * struct boxstore is that memory of one store, and the box_ calls lend it whole: most programs need no others.
+ *
  * media and sizes stand for what survives a loss of power; frames and state do not survive it. After one, make the state down
  * (boxstore_down) and mount. The mount then finds each file as its last completed sync left it, followed by a first part of the
  * bytes of each later write, from none to all, and each later truncate carried out or left out. That presumes of the part behind
@@ -37,7 +39,8 @@
  * The answer is one word, 65,536 * number + count. Number 0 is done, so a done call answers its count, below
  * BOXSTORE_REFUSED. Otherwise the number says why the call was refused, and is the first of these that applies:
  *
- *   2 SHAPE     media, sizes, frames or state, where lent, has another length than above
+ *   2 SHAPE     media, sizes, frames or state, where lent, has another length than above; sizes_len counts numbers and not bytes:
+ *               8, not 32
  *   3 MEDIA     a stored size is above 4,096 (not from format)
  *   4 BOOKS     the state is not sound (not from mount or format)
  *   5 DOWN      the state is down (not from mount or format)
@@ -51,14 +54,15 @@
  *
  * The cache state, byte by byte:
  *
- *     0              1 where the device is mounted, 0 where it is down
- *     1 + 3 * k      slot k, from 0 to 23: 1 where it is used, 0 where it is free; then its file, then its page
- *    73 + 4 * f      logical size of file f, as read and write see it: 4 bytes, low byte first
- *   105 + 4 * f      floor of file f, the smallest of its stored size and of all truncates since the last sync or mount: alike
+ *   BOXSTORE_STATE_MOUNTED           1 where the device is mounted, 0 where it is down
+ *   BOXSTORE_STATE_SLOTS + 3 * k     slot k, from 0 to 23: 1 where it is used, 0 where it is free; then its file, then its page
+ *   BOXSTORE_STATE_LOGICAL + 4 * f   logical size of file f, as read and write see it: 4 bytes, low byte first
+ *   BOXSTORE_STATE_FLOOR + 4 * f     floor of file f, the smallest of its stored size and of all truncates since the last sync or
+ *                                    mount: alike
  *
- * The down state is 137 bytes of 0. A state is sound where byte 0 and the first byte of each slot are 0 or 1; used slots name files
+ * The down state is 137 bytes of 0. A state is sound where its first byte and that of each slot are 0 or 1; used slots name files
  * 0 to 7 and pages 0 to 15, none twice, and free slots are three bytes of 0; of each file floor <= logical size <= 4,096 and
- * floor <= stored size; and where byte 0 is 0, all other bytes are 0 too.
+ * floor <= stored size; and where its first byte is 0, all others are 0 too.
  */
 #ifndef BOXSTORE_H
 #define BOXSTORE_H
@@ -66,12 +70,19 @@
 #include <stddef.h>
 #include <stdint.h>
 
+#if SIZE_MAX != 0xFFFFFFFFFFFFFFFFu
+#error "libboxstore.a is for x86-64, where size_t has 64 bits; it has fewer here"
+#endif
+
 #ifdef __cplusplus
 extern "C" {
 #endif
 
-/* size_t has 8 bytes. */
-typedef char boxstore_size_t_has_8_bytes[sizeof(size_t) == 8 ? 1 : -1];
+/* The version of this interface. */
+#define BOXSTORE_VERSION "0.1.0"
+#define BOXSTORE_VERSION_MAJOR 0
+#define BOXSTORE_VERSION_MINOR 1
+#define BOXSTORE_VERSION_PATCH 0
 
 #define BOXSTORE_FILES 8
 #define BOXSTORE_PAGE_BYTES 256
@@ -80,6 +91,12 @@ typedef char boxstore_size_t_has_8_bytes[sizeof(size_t) == 8 ? 1 : -1];
 #define BOXSTORE_MEDIA_BYTES 32768
 #define BOXSTORE_FRAMES_BYTES 6144
 #define BOXSTORE_STATE_BYTES 137
+
+/* Where the parts of the cache state begin. */
+#define BOXSTORE_STATE_MOUNTED 0
+#define BOXSTORE_STATE_SLOTS 1
+#define BOXSTORE_STATE_LOGICAL 73
+#define BOXSTORE_STATE_FLOOR 105
 
 /* The most media writes that a sync needs, and that a mount or a format needs: a budget that is never CUT. */
 #define BOXSTORE_SYNC_WRITES 18
@@ -104,10 +121,42 @@ enum boxstore_answer {
 static inline unsigned boxstore_number(uint32_t answer) { return answer >> 16; }
 static inline size_t boxstore_count(uint32_t answer) { return answer & 65535u; }
 
+/* The name of an answer, and what it means. They take the answer itself, not its number. */
+static inline const char *boxstore_name(uint32_t answer)
+{
+    switch (boxstore_number(answer)) {
+    case BOXSTORE_DONE: return "done";
+    case BOXSTORE_SHAPE: return "SHAPE";
+    case BOXSTORE_MEDIA: return "MEDIA";
+    case BOXSTORE_BOOKS: return "BOOKS";
+    case BOXSTORE_DOWN: return "DOWN";
+    case BOXSTORE_NO_FILE: return "NO FILE";
+    case BOXSTORE_RANGE: return "RANGE";
+    case BOXSTORE_NO_ROOM: return "NO ROOM";
+    case BOXSTORE_CUT: return "CUT";
+    default: return "unknown";
+    }
+}
+static inline const char *boxstore_meaning(uint32_t answer)
+{
+    switch (boxstore_number(answer)) {
+    case BOXSTORE_DONE: return "the call was carried out";
+    case BOXSTORE_SHAPE: return "lent memory has another length than the call needs";
+    case BOXSTORE_MEDIA: return "a stored size is above 4,096";
+    case BOXSTORE_BOOKS: return "the cache state, or a record of sizes, is not sound";
+    case BOXSTORE_DOWN: return "the device is not mounted";
+    case BOXSTORE_NO_FILE: return "the file number is above 7";
+    case BOXSTORE_RANGE: return "a position, a size, or the end of a write is above its limit";
+    case BOXSTORE_NO_ROOM: return "the first page of the write is not cached, while 24 others are";
+    case BOXSTORE_CUT: return "the budget was below the media writes needed; the device is down";
+    default: return "no call gives this answer";
+    }
+}
+
 /* The logical size of a file, 0 to 7, as read and write see it: of a state that a call left, with 137 bytes. */
 static inline size_t boxstore_logical_size(const uint8_t *state, size_t file)
 {
-    const uint8_t *at = state + 73 + 4 * file;
+    const uint8_t *at = state + BOXSTORE_STATE_LOGICAL + 4 * file;
     return (size_t)at[0] | (size_t)at[1] << 8 | (size_t)at[2] << 16 | (size_t)at[3] << 24;
 }
 
@@ -184,6 +233,82 @@ uint32_t boxstore_write_size(const uint8_t *media, size_t media_len, uint32_t *s
 /* Trim: the bytes of a file from n on become 0, and its stored size n. SHAPE, NO FILE, then RANGE where n is above 4,096 or
  * above the stored size. */
 uint32_t boxstore_trim(uint8_t *media, size_t media_len, uint32_t *sizes, size_t sizes_len, size_t file, size_t n);
+
+/* The memory of one store. All zeros, as a static one begins, it is down and its files are empty. */
+struct boxstore {
+    uint8_t media[BOXSTORE_MEDIA_BYTES];
+    uint32_t sizes[BOXSTORE_FILES];
+    uint8_t frames[BOXSTORE_FRAMES_BYTES];
+    uint8_t state[BOXSTORE_STATE_BYTES];
+};
+
+/* The calls on it: each does and answers what the call above with the same end of its name does on this memory, so never SHAPE. */
+static inline uint32_t box_down(struct boxstore *store) { return boxstore_down(store->state, BOXSTORE_STATE_BYTES); }
+
+static inline uint32_t box_format(struct boxstore *store, size_t budget)
+{
+    return boxstore_format(store->media, BOXSTORE_MEDIA_BYTES, store->sizes, BOXSTORE_FILES,
+                           store->state, BOXSTORE_STATE_BYTES, budget);
+}
+
+static inline uint32_t box_mount(struct boxstore *store, size_t budget)
+{
+    return boxstore_mount(store->media, BOXSTORE_MEDIA_BYTES, store->sizes, BOXSTORE_FILES,
+                          store->state, BOXSTORE_STATE_BYTES, budget);
+}
+
+static inline uint32_t box_read(const struct boxstore *store, size_t file, size_t position, void *buffer, size_t buffer_len)
+{
+    return boxstore_read(store->media, BOXSTORE_MEDIA_BYTES, store->sizes, BOXSTORE_FILES,
+                         store->frames, BOXSTORE_FRAMES_BYTES, store->state, BOXSTORE_STATE_BYTES,
+                         file, position, (uint8_t *)buffer, buffer_len);
+}
+
+static inline uint32_t box_write(struct boxstore *store, size_t file, size_t position, const void *bytes, size_t bytes_len)
+{
+    return boxstore_write(store->media, BOXSTORE_MEDIA_BYTES, store->sizes, BOXSTORE_FILES,
+                          store->frames, BOXSTORE_FRAMES_BYTES, store->state, BOXSTORE_STATE_BYTES,
+                          file, position, (const uint8_t *)bytes, bytes_len);
+}
+
+static inline uint32_t box_truncate(struct boxstore *store, size_t file, size_t n)
+{
+    return boxstore_truncate(store->media, BOXSTORE_MEDIA_BYTES, store->sizes, BOXSTORE_FILES,
+                             store->frames, BOXSTORE_FRAMES_BYTES, store->state, BOXSTORE_STATE_BYTES, file, n);
+}
+
+static inline uint32_t box_sync(struct boxstore *store, size_t file, size_t budget)
+{
+    return boxstore_sync(store->media, BOXSTORE_MEDIA_BYTES, store->sizes, BOXSTORE_FILES,
+                         store->frames, BOXSTORE_FRAMES_BYTES, store->state, BOXSTORE_STATE_BYTES, file, budget);
+}
+
+static inline uint32_t box_look_count(const struct boxstore *store, size_t file, size_t position)
+{
+    return boxstore_look_count(store->media, BOXSTORE_MEDIA_BYTES, store->sizes, BOXSTORE_FILES,
+                               store->frames, BOXSTORE_FRAMES_BYTES, store->state, BOXSTORE_STATE_BYTES, file, position);
+}
+
+/* Look, with the refusals of box_look_count: counts the bytes of the part and points to its first. A refusal leaves the pointer. */
+static inline uint32_t box_look(const struct boxstore *store, size_t file, size_t position, const uint8_t **part)
+{
+    uint64_t look = boxstore_look(store->media, BOXSTORE_MEDIA_BYTES, store->sizes, BOXSTORE_FILES,
+                                  store->frames, BOXSTORE_FRAMES_BYTES, store->state, BOXSTORE_STATE_BYTES, file, position);
+    if (look == 0) {
+        uint32_t answer = box_look_count(store, file, position);
+        if (answer >= BOXSTORE_REFUSED)
+            return answer;
+    }
+    *part = boxstore_looked_at(look, store->media, store->frames);
+    return (uint32_t)boxstore_looked_len(look);
+}
+
+/* Size: counts the bytes of a file, its logical size, with the refusals of a read. */
+static inline uint32_t box_size(const struct boxstore *store, size_t file)
+{
+    uint32_t answer = box_look_count(store, file, 0);
+    return answer >= BOXSTORE_REFUSED ? answer : (uint32_t)boxstore_logical_size(store->state, file);
+}
 
 #ifdef __cplusplus
 }

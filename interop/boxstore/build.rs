@@ -8,6 +8,12 @@ const VARIABLE: &str = "BOXSTORE_ARCHIVE_DIR";
 
 fn main() -> ExitCode {
     println!("cargo::rerun-if-env-changed={VARIABLE}");
+    let target = |part: &str| env::var(format!("CARGO_CFG_TARGET_{part}")).unwrap_or_default();
+    let (arch, width) = (target("ARCH"), target("POINTER_WIDTH"));
+    if (&*arch, &*width) != ("x86_64", "64") {
+        eprintln!("boxstore: libboxstore.a is for x86-64, and the target is {arch} with addresses of {width} bits.");
+        return ExitCode::FAILURE;
+    }
     let folder = env::var_os(VARIABLE).map_or_else(default_folder, PathBuf::from);
     let archive = folder.join("libboxstore.a");
     println!("cargo::rerun-if-changed={}", archive.display());

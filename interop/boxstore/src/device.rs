@@ -1,14 +1,14 @@
 //! A store with its memory.
 
-use std::fmt;
+use core::fmt;
 
-use crate::{raw, Error, FILES, FILE_BYTES, FRAMES_BYTES, MEDIA_BYTES, SLOTS, STATE_BYTES};
+use crate::{
+    raw, Error, FILES, FRAMES_BYTES, MEDIA_BYTES, SLOTS, STATE_BYTES, STATE_LOGICAL, STATE_MOUNTED,
+    STATE_SLOTS,
+};
 
 /// What the frames hold after a loss of power: neither zeros nor text.
 const LOST: u8 = 0xa5;
-
-/// Offset of the logical sizes in the cache state.
-const LOGICAL: usize = 73;
 
 /// A store of eight files, with the memory that it works on.
 ///
@@ -16,18 +16,26 @@ const LOGICAL: usize = 73;
 /// cache does not. A device starts down: [mount](Device::mount) it before
 /// other calls. A refused call leaves the device as it was, but for
 /// [`Error::Cut`].
+///
+/// The memory is inline, 39,084 bytes. Where the stack is too small for it, the
+/// device is a `static`, or in a `Box`.
 #[derive(Clone)]
 pub struct Device {
-    media: Box<[u8; MEDIA_BYTES]>,
+    media: [u8; MEDIA_BYTES],
     sizes: [u32; FILES],
-    frames: Box<[u8; FRAMES_BYTES]>,
+    frames: [u8; FRAMES_BYTES],
     state: [u8; STATE_BYTES],
 }
 
 impl Device {
     /// A device whose media are all 0, down. All its files are empty.
-    pub fn new() -> Device {
-        Device::from_media(vec![0; MEDIA_BYTES], [0; FILES]).expect("the length is right")
+    pub const fn new() -> Device {
+        Device {
+            media: [0; MEDIA_BYTES],
+            sizes: [0; FILES],
+            frames: [0; FRAMES_BYTES],
+            state: [0; STATE_BYTES],
+        }
     }
 
     /// A device with these media and stored sizes, down: one that is met after
@@ -42,30 +50,26 @@ impl Device {
     /// # let (mut image, mut sizes) = Device::new().into_media();
     /// # image[0] = 7;
     /// # sizes[0] = 1;
-    /// let mut device = Device::from_media(image, sizes)?;
+    /// let mut device = Device::from_media(&image, sizes)?;
     /// device.mount(MOUNT_WRITES)?;
     /// for file in 0..boxstore::FILES {
-    ///     println!("file {file}: {} bytes", device.read_all(file)?.len());
+    ///     println!("file {file}: {} bytes", device.len(file)?);
     /// }
-    /// # assert_eq!(device.read_all(0)?, [7]);
+    /// # assert_eq!(device.look(0, 0)?, [7]);
     /// # Ok(())
     /// # }
     /// ```
-    pub fn from_media(media: Vec<u8>, sizes: [u32; FILES]) -> Result<Device, Error> {
-        let frames = vec![LOST; FRAMES_BYTES];
-        Ok(Device {
-            media: media.try_into().map_err(|_| Error::Shape)?,
-            sizes,
-            frames: frames.try_into().map_err(|_| Error::Shape)?,
-            state: [0; STATE_BYTES],
-        })
+    pub fn from_media(media: &[u8], sizes: [u32; FILES]) -> Result<Device, Error> {
+        let mut device = Device::new();
+        device.media = media.try_into().map_err(|_| Error::Shape)?;
+        device.sizes = sizes;
+        Ok(device)
     }
 
     /// The media and the stored sizes: what survives a loss of power. What was
     /// not synced is gone.
-    pub fn into_media(self) -> (Vec<u8>, [u32; FILES]) {
-        let media: Box<[u8]> = self.media;
-        (media.into_vec(), self.sizes)
+    pub fn into_media(self) -> ([u8; MEDIA_BYTES], [u32; FILES]) {
+        (self.media, self.sizes)
     }
 
     /// The bytes of the media.
@@ -78,9 +82,16 @@ impl Device {
         &self.sizes
     }
 
+    /// [Cuts the power](Device::cut_power), and lends the media and the stored
+    /// sizes: to be filled in place, as from a part that is read at the start.
+    pub fn media_mut(&mut self) -> (&mut [u8; MEDIA_BYTES], &mut [u32; FILES]) {
+        self.cut_power();
+        (&mut self.media, &mut self.sizes)
+    }
+
     /// Whether the device is mounted.
     pub fn is_mounted(&self) -> bool {
-        self.state[0] == 1
+        self.state[STATE_MOUNTED] == 1
     }
 
     /// The number of pages that are cached, [`SLOTS`] at most. A write that
@@ -88,7 +99,7 @@ impl Device {
     /// file.
     pub fn cached_pages(&self) -> usize {
         (0..SLOTS)
-            .filter(|slot| self.state[1 + 3 * slot] == 1)
+            .filter(|slot| self.state[STATE_SLOTS + 3 * slot] == 1)
             .count()
     }
 
@@ -96,7 +107,7 @@ impl Device {
     pub fn len(&self, file: usize) -> Result<usize, Error> {
         // a look at 0 has the refusals of a read
         self.look_count(file, 0)?;
-        let at = LOGICAL + 4 * file;
+        let at = STATE_LOGICAL + 4 * file;
         let bytes = [0, 1, 2, 3].map(|i| self.state[at + i]);
         Ok(u32::from_le_bytes(bytes) as usize)
     }
@@ -106,7 +117,7 @@ impl Device {
     /// there: it ends what the files hold.
     pub fn format(&mut self, budget: usize) -> Result<usize, Error> {
         Error::decode(raw::format(
-            &mut self.media[..],
+            &mut self.media,
             &mut self.sizes,
             &mut self.state,
             budget,
@@ -118,7 +129,7 @@ impl Device {
     /// was not synced is gone.
     pub fn mount(&mut self, budget: usize) -> Result<usize, Error> {
         Error::decode(raw::mount(
-            &mut self.media[..],
+            &mut self.media,
             &mut self.sizes,
             &mut self.state,
             budget,
@@ -130,9 +141,9 @@ impl Device {
     /// 0 at or past the logical size. The rest of the buffer keeps its bytes.
     pub fn read(&self, file: usize, position: usize, buffer: &mut [u8]) -> Result<usize, Error> {
         Error::decode(raw::read(
-            &self.media[..],
+            &self.media,
             &self.sizes,
-            &self.frames[..],
+            &self.frames,
             &self.state,
             file,
             position,
@@ -140,9 +151,10 @@ impl Device {
         ))
     }
 
-    /// All bytes of a file.
-    pub fn read_all(&self, file: usize) -> Result<Vec<u8>, Error> {
-        let mut bytes = vec![0; FILE_BYTES];
+    /// All bytes of a file. Needs the feature `std`.
+    #[cfg(feature = "std")]
+    pub fn read_all(&self, file: usize) -> Result<std::vec::Vec<u8>, Error> {
+        let mut bytes = std::vec![0; crate::FILE_BYTES];
         let count = self.read(file, 0, &mut bytes)?;
         bytes.truncate(count);
         Ok(bytes)
@@ -170,9 +182,9 @@ impl Device {
     /// ```
     pub fn write(&mut self, file: usize, position: usize, bytes: &[u8]) -> Result<usize, Error> {
         Error::decode(raw::write(
-            &self.media[..],
+            &self.media,
             &self.sizes,
-            &mut self.frames[..],
+            &mut self.frames,
             &mut self.state,
             file,
             position,
@@ -184,9 +196,9 @@ impl Device {
     /// a write, it reaches the media with the next sync of the file.
     pub fn truncate(&mut self, file: usize, n: usize) -> Result<(), Error> {
         let answer = raw::truncate(
-            &self.media[..],
+            &self.media,
             &self.sizes,
-            &mut self.frames[..],
+            &mut self.frames,
             &mut self.state,
             file,
             n,
@@ -198,9 +210,9 @@ impl Device {
     /// it made. Its cached pages are free after it.
     pub fn sync(&mut self, file: usize, budget: usize) -> Result<usize, Error> {
         Error::decode(raw::sync(
-            &mut self.media[..],
+            &mut self.media,
             &mut self.sizes,
-            &self.frames[..],
+            &self.frames,
             &mut self.state,
             file,
             budget,
@@ -215,14 +227,14 @@ impl Device {
     /// buffer has.
     pub fn look(&self, file: usize, position: usize) -> Result<&[u8], Error> {
         let look = raw::look(
-            &self.media[..],
+            &self.media,
             &self.sizes,
-            &self.frames[..],
+            &self.frames,
             &self.state,
             file,
             position,
         );
-        let part = raw::looked(look, &self.media[..], &self.frames[..]);
+        let part = raw::looked(look, &self.media, &self.frames);
         if part.is_empty() {
             self.look_count(file, position)?;
         }
@@ -233,9 +245,9 @@ impl Device {
     /// logical size, the nearer; 0 at or past the logical size.
     pub fn look_count(&self, file: usize, position: usize) -> Result<usize, Error> {
         Error::decode(raw::look_count(
-            &self.media[..],
+            &self.media,
             &self.sizes,
-            &self.frames[..],
+            &self.frames,
             &self.state,
             file,
             position,
@@ -258,13 +270,22 @@ impl Default for Device {
 
 impl fmt::Debug for Device {
     fn fmt(&self, f: &mut fmt::Formatter<'_>) -> fmt::Result {
-        let logical: Vec<usize> = (0..FILES).flat_map(|file| self.len(file)).collect();
         f.debug_struct("Device")
             .field("mounted", &self.is_mounted())
-            .field("logical", &logical)
+            .field("logical", &Logical(self))
             .field("stored", &self.sizes)
             .field("cached_pages", &self.cached_pages())
             .finish_non_exhaustive()
+    }
+}
+
+/// The logical sizes of a device, none where they are refused.
+struct Logical<'a>(&'a Device);
+
+impl fmt::Debug for Logical<'_> {
+    fn fmt(&self, f: &mut fmt::Formatter<'_>) -> fmt::Result {
+        let sizes = (0..FILES).flat_map(|file| self.0.len(file));
+        f.debug_list().entries(sizes).finish()
     }
 }
 

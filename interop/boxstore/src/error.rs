@@ -1,12 +1,15 @@
 //! The refusals.
 
-use std::fmt;
+use core::fmt;
 
 /// Why a call was refused. All but [`Error::Cut`] leave everything as it was.
-#[derive(Clone, Copy, Debug, PartialEq, Eq, Hash)]
+///
+/// `Display` and `Debug` print the same words, so that a `main` which returns
+/// an error tells what it means.
+#[derive(Clone, Copy, PartialEq, Eq, Hash)]
 #[non_exhaustive]
 pub enum Error {
-    /// SHAPE (2): a slice has another length than the call needs.
+    /// SHAPE (2): lent memory has another length than the call needs.
     Shape,
     /// MEDIA (3): a stored size is above 4,096.
     Media,
@@ -74,7 +77,7 @@ impl fmt::Display for Error {
         match self {
             Error::Shape => write!(
                 f,
-                "SHAPE (2): a slice has another length than the call needs"
+                "SHAPE (2): lent memory has another length than the call needs"
             ),
             Error::Media => write!(f, "MEDIA (3): a stored size is above 4,096"),
             Error::Books => write!(f, "BOOKS (4): the cache state, or a record of sizes, is not sound"),
@@ -97,16 +100,25 @@ impl fmt::Display for Error {
     }
 }
 
-impl std::error::Error for Error {}
+impl fmt::Debug for Error {
+    fn fmt(&self, f: &mut fmt::Formatter<'_>) -> fmt::Result {
+        fmt::Display::fmt(self, f)
+    }
+}
+
+impl core::error::Error for Error {}
 
 #[cfg(test)]
 mod tests {
     use super::Error;
+    use std::boxed::Box;
+    use std::format;
+    use std::string::ToString;
 
     const ALL: [(Error, &str); 10] = [
         (
             Error::Shape,
-            "SHAPE (2): a slice has another length than the call needs",
+            "SHAPE (2): lent memory has another length than the call needs",
         ),
         (Error::Media, "MEDIA (3): a stored size is above 4,096"),
         (Error::Books, "BOOKS (4): the cache state, or a record of sizes, is not sound"),
@@ -138,8 +150,18 @@ mod tests {
     fn texts() {
         for (error, text) in ALL {
             assert_eq!(error.to_string(), text);
+            assert_eq!(format!("{error:?}"), text);
             assert!(text.contains(&format!("({})", error.number())));
         }
+    }
+
+    #[test]
+    fn a_result_prints_the_meaning() {
+        let refused: Result<usize, Error> = Err(Error::NoFile);
+        assert_eq!(
+            format!("{refused:?}"),
+            "Err(NO FILE (6): the file number is above 7)"
+        );
     }
 
     #[test]

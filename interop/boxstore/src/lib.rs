@@ -2,8 +2,8 @@
 //! moment.
 //!
 //! The store is the proved one: this crate links its archive, `libboxstore.a`,
-//! and adds Rust types around it. A [`Device`] owns the memory of one store;
-//! [`raw`] has the calls over memory of the caller's own.
+//! and adds Rust types around it. A [`Device`] is the memory of one store, with
+//! the calls on it; [`raw`] has the calls over memory of the caller's own.
 //!
 //! A file is 0 to 4,096 bytes. A write goes into a cache of 24 pages of 256
 //! bytes, and a [sync](Device::sync) brings a file to the media. After a loss
@@ -40,6 +40,29 @@
 //! still pays for. Where they need more they do that many and answer
 //! [`Error::Cut`]: the device is then down, as if the power had gone at that
 //! moment. [`SYNC_WRITES`] and [`MOUNT_WRITES`] are never cut.
+//!
+//! # Without `std`
+//!
+//! The feature `std`, on by default, adds `Device::read_all` and no more.
+//! With `default-features = false` the crate rests on `core`, and allocates
+//! nothing. A device has its memory inline; a new one is all zeros, so that a
+//! `static` one takes no room in the image of a program:
+//!
+//! ```
+//! use boxstore::{Device, MOUNT_WRITES};
+//! # use std::sync::Mutex;
+//!
+//! // the Mutex of the platform
+//! static STORE: Mutex<Device> = Mutex::new(Device::new());
+//!
+//! let mut device = STORE.lock().unwrap();
+//! assert_eq!(device.mount(MOUNT_WRITES), Ok(0));
+//! ```
+
+#![no_std]
+
+#[cfg(any(feature = "std", test))]
+extern crate std;
 
 mod device;
 mod error;
@@ -62,6 +85,15 @@ pub const MEDIA_BYTES: usize = FILES * FILE_BYTES;
 pub const FRAMES_BYTES: usize = SLOTS * PAGE_BYTES;
 /// Bytes of the cache state.
 pub const STATE_BYTES: usize = 137;
+
+/// Where in the cache state it says whether the device is mounted.
+pub const STATE_MOUNTED: usize = 0;
+/// Where in the cache state the slots begin, three bytes each.
+pub const STATE_SLOTS: usize = 1;
+/// Where in the cache state the logical sizes begin, four bytes each.
+pub const STATE_LOGICAL: usize = 73;
+/// Where in the cache state the floors begin, four bytes each.
+pub const STATE_FLOOR: usize = 105;
 
 /// The most media writes that a sync needs: a budget that is never cut.
 pub const SYNC_WRITES: usize = 18;

@@ -30,7 +30,7 @@ fn a_new_device_is_down_and_empty() {
     assert_eq!(device.sizes(), &[0; FILES]);
     assert_eq!(
         Device::default().into_media(),
-        (vec![0; MEDIA_BYTES], [0; FILES])
+        ([0; MEDIA_BYTES], [0; FILES])
     );
 }
 
@@ -75,7 +75,7 @@ fn media_go_from_device_to_device() {
     assert_eq!(sizes, [0, 0, 0, 0, 0, 0, 0, 4_096]);
     assert_eq!(media[MEDIA_BYTES - 96..], [9; 96]);
 
-    let mut found = Device::from_media(media, sizes).unwrap();
+    let mut found = Device::from_media(&media, sizes).unwrap();
     assert!(!found.is_mounted());
     assert_eq!(found.mount(0), Ok(0));
     assert_eq!(found.len(7), Ok(4_096));
@@ -83,9 +83,29 @@ fn media_go_from_device_to_device() {
 }
 
 #[test]
+fn media_are_filled_in_place() {
+    let mut device = cached(&[1]);
+    let (media, sizes) = device.media_mut();
+    media[FILE_BYTES..FILE_BYTES + 12].copy_from_slice(b"SN-000042-A7");
+    sizes[1] = 9;
+    assert!(!device.is_mounted());
+    assert_eq!(device.cached_pages(), 0);
+    assert_eq!(device.mount(MOUNT_WRITES), Ok(1));
+    assert_eq!(device.len(0), Ok(0));
+    assert_eq!(device.read_all(1).unwrap(), b"SN-000042");
+}
+
+#[test]
+fn a_device_has_its_memory_inline() {
+    static DEVICE: Device = Device::new();
+    assert_eq!(size_of::<Device>(), 39_084);
+    assert_eq!(DEVICE.media(), &[0; MEDIA_BYTES]);
+}
+
+#[test]
 fn media_of_another_length_are_refused() {
     for length in [0, MEDIA_BYTES - 1, MEDIA_BYTES + 1] {
-        let refused = Device::from_media(vec![0; length], [0; FILES]);
+        let refused = Device::from_media(&vec![0; length], [0; FILES]);
         assert_eq!(refused.map(drop), Err(Error::Shape));
     }
 }
@@ -94,7 +114,7 @@ fn media_of_another_length_are_refused() {
 fn a_stored_size_that_no_file_has_is_refused() {
     let mut sizes = [0; FILES];
     sizes[5] = 4_097;
-    let mut device = Device::from_media(vec![3; MEDIA_BYTES], sizes).unwrap();
+    let mut device = Device::from_media(&[3; MEDIA_BYTES], sizes).unwrap();
     assert_eq!(device.mount(MOUNT_WRITES), Err(Error::Media));
     // before DOWN and NO FILE
     for file in [0, 5, 8] {
@@ -347,7 +367,7 @@ fn debug_is_short() {
 fn len_and_read_all_are_refused_as_a_read_is() {
     let mut sizes = [0; FILES];
     sizes[7] = 4097;
-    let mut device = Device::from_media(vec![0; MEDIA_BYTES], sizes).unwrap();
+    let mut device = Device::from_media(&[0; MEDIA_BYTES], sizes).unwrap();
     assert_eq!(device.read(0, 0, &mut []), Err(Error::Media));
     assert_eq!(device.len(0), Err(Error::Media));
     assert_eq!(device.read_all(0), Err(Error::Media));
