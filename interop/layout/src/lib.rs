@@ -1,0 +1,134 @@
+//! The lengths of a store's memory and the offsets in its cache state: the
+//! numbers of `boxstore.h`, for all Rust code here but the reference, which has
+//! its own.
+
+#![no_std]
+
+/// Number of files; they are numbered from 0.
+pub const FILES: usize = 8;
+/// Bytes in a page.
+pub const PAGE_BYTES: usize = 256;
+/// Pages in a file.
+pub const PAGES: usize = 16;
+/// Greatest size of a file.
+pub const FILE_BYTES: usize = PAGES * PAGE_BYTES;
+/// Pages that the cache holds, over all files together.
+pub const SLOTS: usize = 24;
+/// Bytes of the media.
+pub const MEDIA_BYTES: usize = FILES * FILE_BYTES;
+/// Bytes of the frames, which hold the cached pages.
+pub const FRAMES_BYTES: usize = SLOTS * PAGE_BYTES;
+
+/// The most media writes that a sync needs, a trim, the pages and a size: a
+/// budget that is never cut.
+pub const SYNC_WRITES: usize = PAGES + 2;
+/// The most media writes that a mount or a format needs, a trim of each file: a
+/// budget that is never cut.
+pub const MOUNT_WRITES: usize = FILES;
+
+/// Offset in the cache state of the byte that is 1 where the device is mounted.
+pub const MOUNTED: usize = 0;
+/// Bytes of a slot: 1 where it is used, then its file, then its page.
+pub const SLOT_BYTES: usize = 3;
+/// Bytes of a size, low byte first.
+pub const SIZE_BYTES: usize = 4;
+/// Offset of the slots.
+pub const SLOT_TABLE: usize = MOUNTED + 1;
+/// Offset of the logical sizes.
+pub const LOGICAL_SIZES: usize = SLOT_TABLE + SLOT_BYTES * SLOTS;
+/// Offset of the floors.
+pub const FLOORS: usize = LOGICAL_SIZES + SIZE_BYTES * FILES;
+/// Bytes of the cache state.
+pub const STATE_BYTES: usize = FLOORS + SIZE_BYTES * FILES;
+
+/// Offset of a slot.
+#[inline(always)]
+pub const fn slot_at(slot: usize) -> usize {
+    SLOT_TABLE + SLOT_BYTES * slot
+}
+
+/// Offset of the logical size of a file.
+#[inline(always)]
+pub const fn logical_at(file: usize) -> usize {
+    LOGICAL_SIZES + SIZE_BYTES * file
+}
+
+/// Offset of the floor of a file.
+#[inline(always)]
+pub const fn floor_at(file: usize) -> usize {
+    FLOORS + SIZE_BYTES * file
+}
+
+/// The size at an offset of a state.
+///
+/// # Panics
+///
+/// Where the state ends before it.
+#[inline(always)]
+pub fn size(state: &[u8], at: usize) -> usize {
+    let bytes = state[at..at + SIZE_BYTES].try_into().expect("four bytes");
+    u32::from_le_bytes(bytes) as usize
+}
+
+/// Puts a size, below 2^32, at an offset of a state.
+///
+/// # Panics
+///
+/// Where the state ends before it.
+#[inline(always)]
+pub fn put_size(state: &mut [u8], at: usize, size: usize) {
+    state[at..at + SIZE_BYTES].copy_from_slice(&(size as u32).to_le_bytes());
+}
+
+#[cfg(test)]
+mod tests {
+    extern crate std;
+
+    use std::format;
+
+    use super::*;
+
+    const HEADER: &str = include_str!("../../boxstore.h");
+
+    #[test]
+    fn the_header_defines_the_same_numbers() {
+        for (name, number) in [
+            ("FILES", FILES),
+            ("PAGE_BYTES", PAGE_BYTES),
+            ("SLOTS", SLOTS),
+            ("FILE_BYTES", FILE_BYTES),
+            ("MEDIA_BYTES", MEDIA_BYTES),
+            ("FRAMES_BYTES", FRAMES_BYTES),
+            ("STATE_BYTES", STATE_BYTES),
+            ("SYNC_WRITES", SYNC_WRITES),
+            ("MOUNT_WRITES", MOUNT_WRITES),
+        ] {
+            let define = format!("#define BOXSTORE_{name} ");
+            let defined = HEADER.lines().find_map(|line| line.strip_prefix(&define));
+            assert_eq!(defined, Some(&*format!("{number}")), "{name}");
+        }
+    }
+
+    #[test]
+    fn the_header_tells_the_same_offsets() {
+        for offset in [
+            format!("{MOUNTED}"),
+            format!("{SLOT_TABLE} + {SLOT_BYTES} * k"),
+            format!("{LOGICAL_SIZES} + {SIZE_BYTES} * f"),
+            format!("{FLOORS} + {SIZE_BYTES} * f"),
+        ] {
+            let start = format!("{offset}  ");
+            let told = |line: &str| line.trim_start_matches([' ', '*']).starts_with(&start);
+            assert!(HEADER.lines().any(told), "{offset}");
+        }
+    }
+
+    #[test]
+    fn a_size_has_its_low_byte_first() {
+        let mut state = [0xff; STATE_BYTES];
+        put_size(&mut state, floor_at(7), 0x0102);
+        assert_eq!(state[STATE_BYTES - 5..], [0xff, 2, 1, 0, 0]);
+        assert_eq!(size(&state, floor_at(7)), 0x0102);
+        assert_eq!(size(&state, logical_at(7)), 0xffff_ffff);
+    }
+}
