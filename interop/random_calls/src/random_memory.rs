@@ -2,43 +2,26 @@
 
 use std::fmt;
 
-use random_sessions::rng::Rng;
-use reference::store::{
-    CacheState, Slot, FILES, FILE_MAX, FRAMES_LEN, MEDIA_LEN, PAGE, PAGES, SLOTS,
+use layout::{
+    floor_at, logical_at, put_size, slot_at, FILES, FILE_BYTES, FRAMES_BYTES, MEDIA_BYTES, MOUNTED,
+    PAGES, PAGE_BYTES, SIZE_BYTES, SLOTS, SLOT_BYTES, STATE_BYTES,
 };
+use random_sessions::rng::Rng;
+use reference::store::{CacheState, Slot};
 
 use crate::guarded::Guarded;
-use crate::reference_store::{decode, encode, STATE_LEN};
+use crate::memory::Memory;
+use crate::reference_store::{decode, encode};
 use crate::text::Bytes;
 
-/// What a call of the store works on, between guards.
-#[derive(Clone, Debug, PartialEq, Eq)]
-pub struct Memory {
-    /// The bytes of the media.
-    pub media: Guarded<u8>,
-    /// The stored sizes.
-    pub sizes: Guarded<u32>,
-    /// The bytes of the cached pages.
-    pub frames: Guarded<u8>,
-    /// The cache state.
-    pub state: Guarded<u8>,
-}
+/// Memory with each slice between guards.
+pub type GuardedMemory = Memory<Guarded<u8>, Guarded<u32>>;
 
-impl Memory {
-    /// Media all 0, down.
-    pub fn new() -> Memory {
-        Memory {
-            media: Guarded::new(0, MEDIA_LEN),
-            sizes: Guarded::new(0, FILES),
-            frames: Guarded::new(0, FRAMES_LEN),
-            state: Guarded::new(0, STATE_LEN),
-        }
-    }
-
+impl GuardedMemory {
     /// Random memory: about half of it is sound and up. The rest has one thing
     /// wrong, or several, so that the order of the refusals shows.
-    pub fn random(rng: &mut Rng) -> Memory {
-        let mut memory = Memory::sound(rng);
+    pub fn random(rng: &mut Rng) -> GuardedMemory {
+        let mut memory = GuardedMemory::sound(rng);
         match rng.weighted(&[12, 1, 4, 2]) {
             0 => {}
             1 => memory.state.fill(0),
@@ -52,14 +35,6 @@ impl Memory {
             memory.spoil_lengths(rng);
         }
         memory
-    }
-
-    /// Whether the four have the lengths that calls need.
-    pub fn has_right_lengths(&self) -> bool {
-        self.media.len() == MEDIA_LEN
-            && self.sizes.len() == FILES
-            && self.frames.len() == FRAMES_LEN
-            && self.state.len() == STATE_LEN
     }
 
     /// Whether the guards of the four are as they were made.
@@ -80,7 +55,7 @@ impl Memory {
 
     /// The memory with one thing made simpler, for each way another; nothing
     /// where it is simple there already.
-    pub fn simpler(&self, way: usize) -> Option<Memory> {
+    pub fn simpler(&self, way: usize) -> Option<GuardedMemory> {
         let mut memory = self.clone();
         let Memory {
             media,
@@ -89,40 +64,42 @@ impl Memory {
             state,
         } = &mut memory;
         let file = way % FILES;
-        let (logical, floor) = (73 + 4 * file, 105 + 4 * file);
+        let (logical, floor) = (logical_at(file), floor_at(file));
         let slot = way % SLOTS;
         match way / FILES {
-            0 => clear(media, file * FILE_MAX, FILE_MAX),
+            0 => clear(media, file * FILE_BYTES, FILE_BYTES),
             1 => clear(sizes, file, 1),
-            2 => clear(state, floor, 4),
+            2 => clear(state, floor, SIZE_BYTES),
             3 => {
-                clear(state, logical, 4);
-                clear(state, floor, 4);
+                clear(state, logical, SIZE_BYTES);
+                clear(state, floor, SIZE_BYTES);
             }
             4 => {
                 clear(sizes, file, 1);
-                clear(state, logical, 4);
-                clear(state, floor, 4);
+                clear(state, logical, SIZE_BYTES);
+                clear(state, floor, SIZE_BYTES);
             }
-            5 if state.len() >= floor + 4 => state.copy_within(floor..floor + 4, logical),
+            5 if state.len() >= floor + SIZE_BYTES => {
+                state.copy_within(floor..floor + SIZE_BYTES, logical)
+            }
             5 => {}
-            6..=8 => clear(state, 1 + 3 * slot, 3),
-            9..=11 => clear(frames, slot * PAGE, PAGE),
+            6..=8 => clear(state, slot_at(slot), SLOT_BYTES),
+            9..=11 => clear(frames, slot * PAGE_BYTES, PAGE_BYTES),
             _ => [media, frames, state][way % FILES].fill(0),
         }
         (memory != *self).then_some(memory)
     }
 
     /// Memory with a sound state that is up.
-    fn sound(rng: &mut Rng) -> Memory {
-        let mut memory = Memory::new();
+    fn sound(rng: &mut Rng) -> GuardedMemory {
+        let mut memory = GuardedMemory::new();
         let mut state = CacheState {
             mounted: 1,
             ..CacheState::DOWN
         };
         fill(rng, &mut memory.frames);
         for file in 0..FILES {
-            let stored = size(rng, FILE_MAX);
+            let stored = size(rng, FILE_BYTES);
             let floor = if rng.chance(60) {
                 stored
             } else {
@@ -131,20 +108,20 @@ impl Memory {
             let logical = if rng.chance(60) {
                 floor
             } else {
-                floor + size(rng, FILE_MAX - floor)
+                floor + size(rng, FILE_BYTES - floor)
             };
             memory.sizes[file] = stored as u32;
             state.floor[file] = floor;
             state.logical[file] = logical;
 
-            let bytes = &mut memory.media[file * FILE_MAX..(file + 1) * FILE_MAX];
+            let bytes = &mut memory.media[file * FILE_BYTES..(file + 1) * FILE_BYTES];
             match rng.below(4) {
                 // bytes past the stored size, as a sync that was cut leaves
                 0 => fill(rng, bytes),
                 // a single one
-                1 if stored < FILE_MAX => {
+                1 if stored < FILE_BYTES => {
                     fill(rng, &mut bytes[..stored]);
-                    bytes[rng.between(stored, FILE_MAX - 1)] = 1;
+                    bytes[rng.between(stored, FILE_BYTES - 1)] = 1;
                 }
                 2 => {}
                 _ => fill(rng, &mut bytes[..stored]),
@@ -178,27 +155,30 @@ impl Memory {
 
     /// Alters the state in one place, so that it is mostly no longer sound.
     fn spoil_state(&mut self, rng: &mut Rng) {
-        let slot = 1 + 3 * rng.below(SLOTS);
+        let slot = slot_at(rng.below(SLOTS));
         let file = rng.below(FILES);
         match rng.below(6) {
-            0 => self.state[0] = rng.pick(&[0, 2, 3, 128, 255]),
+            0 => self.state[MOUNTED] = rng.pick(&[0, 2, 3, 128, 255]),
             1 => {
-                let other = 1 + 3 * rng.below(SLOTS);
-                self.state.copy_within(other..other + 3, slot);
+                let other = slot_at(rng.below(SLOTS));
+                self.state.copy_within(other..other + SLOT_BYTES, slot);
             }
-            2 => self.state[slot + rng.below(3)] = rng.pick(&[0, 1, 2, 7, 8, 15, 16, 128, 255]),
+            2 => {
+                self.state[slot + rng.below(SLOT_BYTES)] =
+                    rng.pick(&[0, 1, 2, 7, 8, 15, 16, 128, 255])
+            }
             3 => {
-                let value = rng.pick(&[0, 1, 4_096, 4_097, 8_192, 1 << 31, u32::MAX]);
-                let at = 73 + 32 * rng.below(2) + 4 * file;
-                self.state[at..at + 4].copy_from_slice(&value.to_le_bytes());
+                let value = rng.pick(&[0, 1, 4_096, 4_097, 8_192, 1 << 31, u32::MAX as usize]);
+                let at = rng.pick(&[logical_at(file), floor_at(file)]);
+                put_size(&mut self.state, at, value);
             }
             4 => {
-                let at = rng.below(STATE_LEN);
+                let at = rng.below(STATE_BYTES);
                 self.state[at] ^= 1 << rng.below(8);
             }
             // down, but for one byte
             _ => {
-                let at = rng.below(STATE_LEN);
+                let at = rng.below(STATE_BYTES);
                 self.state.fill(0);
                 self.state[at] = rng.pick(&[0, 1, 255]);
             }
@@ -217,7 +197,7 @@ impl Memory {
             *byte = rng.between(0, greatest) as u8;
         }
         if rng.chance(70) {
-            self.state[0] = 1;
+            self.state[MOUNTED] = 1;
         }
     }
 
@@ -225,10 +205,10 @@ impl Memory {
     fn spoil_lengths(&mut self, rng: &mut Rng) {
         loop {
             match rng.below(4) {
-                0 => self.media.resize(other_length(rng, MEDIA_LEN), 1),
+                0 => self.media.resize(other_length(rng, MEDIA_BYTES), 1),
                 1 => self.sizes.resize(other_length(rng, FILES), 1),
-                2 => self.frames.resize(other_length(rng, FRAMES_LEN), 1),
-                _ => self.state.resize(other_length(rng, STATE_LEN), 0),
+                2 => self.frames.resize(other_length(rng, FRAMES_BYTES), 1),
+                _ => self.state.resize(other_length(rng, STATE_BYTES), 0),
             }
             if rng.chance(80) {
                 return;
@@ -238,7 +218,7 @@ impl Memory {
 }
 
 /// The cache state decoded, and of the rest what is not 0.
-impl fmt::Display for Memory {
+impl fmt::Display for GuardedMemory {
     fn fmt(&self, f: &mut fmt::Formatter<'_>) -> fmt::Result {
         writeln!(f, "  stored sizes {:?}", self.sizes)?;
         match decode(&self.state) {
@@ -265,8 +245,8 @@ impl fmt::Display for Memory {
             None => writeln!(f, "  state: {} bytes {:?}", self.state.len(), self.state)?,
         }
         for (name, bytes, piece) in [
-            ("media of file", &self.media, FILE_MAX),
-            ("frames of slot", &self.frames, PAGE),
+            ("media of file", &self.media, FILE_BYTES),
+            ("frames of slot", &self.frames, PAGE_BYTES),
         ] {
             for (index, bytes) in bytes.chunks(piece).enumerate() {
                 if bytes.iter().any(|&byte| byte != 0) {
@@ -282,12 +262,6 @@ impl fmt::Display for Memory {
             self.frames.len(),
             self.state.len()
         )
-    }
-}
-
-impl Default for Memory {
-    fn default() -> Memory {
-        Memory::new()
     }
 }
 
@@ -310,8 +284,8 @@ fn size(rng: &mut Rng, limit: usize) -> usize {
     match rng.below(6) {
         0 => 0,
         1 => limit,
-        2 => (rng.below(17) * 256).min(limit),
-        3 => (rng.below(17) * 256 + 1).min(limit),
+        2 => (rng.below(PAGES + 1) * PAGE_BYTES).min(limit),
+        3 => (rng.below(PAGES + 1) * PAGE_BYTES + 1).min(limit),
         _ => rng.between(0, limit),
     }
 }
