@@ -407,7 +407,7 @@ fn mixed() -> Vec<Step> {
 
 #[cfg(test)]
 mod tests {
-    use layout::{FRAMES_BYTES, LOGICAL_SIZES};
+    use layout::{FRAMES_BYTES, STATE_LOGICAL};
     use random_calls::Reference;
 
     use super::*;
@@ -502,7 +502,7 @@ mod tests {
             (|run| run.buffer[9] ^= 1, "buffers of reads"),
             (|run| run.memory.media[9] ^= 1, "media"),
             (|run| run.memory.sizes[1] ^= 1, "stored sizes"),
-            (|run| run.memory.state[LOGICAL_SIZES] ^= 1, "cache states"),
+            (|run| run.memory.state[STATE_LOGICAL] ^= 1, "cache states"),
             (|run| run.memory.frames[9] ^= 1, "frames of slot 0"),
         ];
         for (alter, what) in alter {

@@ -3,7 +3,7 @@
 use std::collections::VecDeque;
 use std::fmt;
 
-use layout::{FILES, FILE_BYTES, MOUNTED, MOUNT_WRITES, PAGES, PAGE_BYTES, SYNC_WRITES};
+use layout::{FILES, FILE_BYTES, MOUNT_WRITES, PAGES, PAGE_BYTES, STATE_MOUNTED, SYNC_WRITES};
 use random_calls::{decode, fill, Call, GuardedMemory};
 use random_sessions::rng::Rng;
 
@@ -104,7 +104,7 @@ impl Generator {
         if let Some(step) = self.next.pop_front() {
             return step;
         }
-        let up = memory.state[MOUNTED] == 1;
+        let up = memory.state[STATE_MOUNTED] == 1;
         let file = self.rng.below(self.files);
         let kind = if up {
             self.rng.weighted(&[34, 16, 16, 12, 10, 3, 3, 2, 2, 2])

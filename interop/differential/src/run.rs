@@ -2,7 +2,7 @@
 
 use std::marker::PhantomData;
 
-use layout::{FILES, FILE_BYTES, FRAMES_BYTES, MOUNTED, PAGES, PAGE_BYTES, SLOTS};
+use layout::{FILES, FILE_BYTES, FRAMES_BYTES, PAGES, PAGE_BYTES, SLOTS, STATE_MOUNTED};
 use random_calls::{fill, Answered, Call, GuardedMemory, Pair, Store};
 use random_sessions::rng::Rng;
 use reference::model::{Entry, ModelFile};
@@ -49,7 +49,7 @@ impl<A: Store, B: Store> Run<A, B> {
         // The first mount finds what is on the media.
         run.found()?;
         run.step(&Step::Call(Call::Mount { budget: FULL }), tally)?;
-        if run.pair.memory().state[MOUNTED] != 1 {
+        if run.pair.memory().state[STATE_MOUNTED] != 1 {
             return Err("the first mount is not done".to_owned());
         }
         Ok(run)

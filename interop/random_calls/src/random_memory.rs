@@ -3,8 +3,8 @@
 use std::fmt;
 
 use layout::{
-    floor_at, logical_at, put_size, slot_at, FILES, FILE_BYTES, FRAMES_BYTES, MEDIA_BYTES, MOUNTED,
-    PAGES, PAGE_BYTES, SIZE_BYTES, SLOTS, SLOT_BYTES, STATE_BYTES,
+    floor_at, logical_at, put_size, slot_at, FILES, FILE_BYTES, FRAMES_BYTES, MEDIA_BYTES, PAGES,
+    PAGE_BYTES, SIZE_BYTES, SLOTS, SLOT_BYTES, STATE_BYTES, STATE_MOUNTED,
 };
 use random_sessions::rng::Rng;
 use reference::store::{CacheState, Slot};
@@ -158,7 +158,7 @@ impl GuardedMemory {
         let slot = slot_at(rng.below(SLOTS));
         let file = rng.below(FILES);
         match rng.below(6) {
-            0 => self.state[MOUNTED] = rng.pick(&[0, 2, 3, 128, 255]),
+            0 => self.state[STATE_MOUNTED] = rng.pick(&[0, 2, 3, 128, 255]),
             1 => {
                 let other = slot_at(rng.below(SLOTS));
                 self.state.copy_within(other..other + SLOT_BYTES, slot);
@@ -197,7 +197,7 @@ impl GuardedMemory {
             *byte = rng.between(0, greatest) as u8;
         }
         if rng.chance(70) {
-            self.state[MOUNTED] = 1;
+            self.state[STATE_MOUNTED] = 1;
         }
     }
 

@@ -1,8 +1,8 @@
 //! The reference, with the cache state as bytes.
 
 use layout::{
-    floor_at, logical_at, put_size, size, slot_at, FILES, MEDIA_BYTES, MOUNTED, SLOTS, SLOT_BYTES,
-    STATE_BYTES,
+    floor_at, logical_at, put_size, size, slot_at, FILES, MEDIA_BYTES, SLOTS, SLOT_BYTES,
+    STATE_BYTES, STATE_MOUNTED,
 };
 use reference::store::{self, Answer, CacheState, FileSizes, Refusal, Slot};
 
@@ -29,7 +29,7 @@ pub fn decode(bytes: &[u8]) -> Option<CacheState> {
         return None;
     }
     let mut state = CacheState {
-        mounted: bytes[MOUNTED],
+        mounted: bytes[STATE_MOUNTED],
         slots: [Slot::FREE; SLOTS],
         logical: std::array::from_fn(|file| size(bytes, logical_at(file))),
         floor: std::array::from_fn(|file| size(bytes, floor_at(file))),
@@ -51,7 +51,7 @@ pub fn decode(bytes: &[u8]) -> Option<CacheState> {
 
 /// The bytes of a state, as the calls leave it.
 pub fn encode(state: &CacheState, bytes: &mut [u8]) {
-    bytes[MOUNTED] = state.mounted;
+    bytes[STATE_MOUNTED] = state.mounted;
     for (index, slot) in state.slots.iter().enumerate() {
         let at = slot_at(index);
         bytes[at..at + SLOT_BYTES].copy_from_slice(&[

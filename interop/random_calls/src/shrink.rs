@@ -46,7 +46,7 @@ pub fn shrink(
 #[cfg(test)]
 mod tests {
     use super::*;
-    use layout::MOUNTED;
+    use layout::STATE_MOUNTED;
     use random_sessions::rng::Rng;
 
     #[test]
@@ -62,12 +62,12 @@ mod tests {
         };
         let (memory, call) = shrink(memory, call, |memory, call| {
             memory.sizes[3] > 7
-                && memory.state[MOUNTED] == 1
+                && memory.state[STATE_MOUNTED] == 1
                 && matches!(call, Call::Write { position, bytes, .. } if *position >= 300 && bytes.len() > 2)
         });
         let mut small = GuardedMemory::new();
         small.sizes[3] = memory.sizes[3];
-        small.state[MOUNTED] = 1;
+        small.state[STATE_MOUNTED] = 1;
         assert_eq!(memory, small);
         assert_eq!(
             call,

@@ -1,7 +1,8 @@
 //! The comparison finds a store with a fault.
 
 use layout::{
-    FILES, FILE_BYTES, FRAMES_BYTES, LOGICAL_SIZES, MEDIA_BYTES, MOUNTED, PAGE_BYTES, STATE_BYTES,
+    FILES, FILE_BYTES, FRAMES_BYTES, MEDIA_BYTES, PAGE_BYTES, STATE_BYTES, STATE_LOGICAL,
+    STATE_MOUNTED,
 };
 use random_calls::{compare, Call, GuardedMemory, MemoryMut, MemoryRef, Reference, Store};
 
@@ -64,7 +65,7 @@ impl<const FAULT: usize> Store for Faulty<FAULT> {
         let before = m.state.to_vec();
         let answer = Reference::write(m.lend_mut(), file, position, bytes);
         if FAULT == 5 && answer >> 16 == 0 {
-            m.state[LOGICAL_SIZES..].copy_from_slice(&before[LOGICAL_SIZES..]);
+            m.state[STATE_LOGICAL..].copy_from_slice(&before[STATE_LOGICAL..]);
         }
         if FAULT == 6 && answer >> 16 == 8 {
             m.frames[0] ^= 1;
@@ -83,7 +84,7 @@ impl<const FAULT: usize> Store for Faulty<FAULT> {
         if FAULT == 16
             && sizes.len() == FILES
             && m.frames.len() == FRAMES_BYTES
-            && m.state.get(MOUNTED) == Some(&2)
+            && m.state.get(STATE_MOUNTED) == Some(&2)
         {
             m.sizes.fill(0);
             let answer = Reference::truncate(m.lend_mut(), file, n);
@@ -254,7 +255,7 @@ fn a_difference_is_told_in_its_simplest_form() {
     let difference = compare::<Reference, Faulty<4>>(1, 30_000).unwrap_err();
     // one byte too many in the buffer, on a store that is up
     let mut memory = GuardedMemory::new();
-    memory.state[MOUNTED] = 1;
+    memory.state[STATE_MOUNTED] = 1;
     assert_eq!(difference.memory, memory);
     let Call::Read {
         position: 0,

@@ -9,8 +9,8 @@
 mod state;
 
 use layout::{
-    floor_at, logical_at, put_size, size, slot_at, FILES, FILE_BYTES, FRAMES_BYTES, LOGICAL_SIZES,
-    MEDIA_BYTES, MOUNTED, PAGES, PAGE_BYTES, SLOTS, SLOT_BYTES, SLOT_TABLE, STATE_BYTES,
+    floor_at, logical_at, put_size, size, slot_at, FILES, FILE_BYTES, FRAMES_BYTES, MEDIA_BYTES,
+    PAGES, PAGE_BYTES, SLOTS, SLOT_BYTES, STATE_BYTES, STATE_LOGICAL, STATE_MOUNTED, STATE_SLOTS,
 };
 use state::Slots;
 
@@ -51,7 +51,7 @@ fn admit(
     if !order.cached || !slots.find(state) {
         return Err(BOOKS);
     }
-    match state[MOUNTED] {
+    match state[STATE_MOUNTED] {
         1 => {}
         0 if state::is_down(state) => return Err(DOWN),
         _ => return Err(BOOKS),
@@ -385,8 +385,8 @@ pub fn mount(media: &mut [u8], sizes: &mut [u32], state: &mut [u8], budget: usiz
         past.fill(0);
         trims += 1;
     }
-    state[MOUNTED] = 1;
-    state[SLOT_TABLE..LOGICAL_SIZES].fill(0);
+    state[STATE_MOUNTED] = 1;
+    state[STATE_SLOTS..STATE_LOGICAL].fill(0);
     for (file, &size) in sizes.iter().enumerate() {
         put_size(state, logical_at(file), size as usize);
         put_size(state, floor_at(file), size as usize);
