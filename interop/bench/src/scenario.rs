@@ -118,17 +118,17 @@ impl Run {
     /// Carries out one step and answers its word.
     #[inline(always)]
     pub fn step<S: Store>(&mut self, step: Step) -> u64 {
-        let lent = self.memory.lend_mut();
+        let memory = &mut self.memory;
         match step {
-            Step::Format => S::format(lent, MOUNT_WRITES).into(),
-            Step::Mount => S::mount(lent, MOUNT_WRITES).into(),
+            Step::Format => S::format(memory.lend_mut(), MOUNT_WRITES).into(),
+            Step::Mount => S::mount(memory.lend_mut(), MOUNT_WRITES).into(),
             Step::Read {
                 file,
                 position,
                 length,
             } => {
                 let buffer = &mut self.buffer[..length];
-                S::read(lent.lend(), file, position, buffer).into()
+                S::read(memory.lend(), file, position, buffer).into()
             }
             Step::Write {
                 file,
@@ -136,16 +136,18 @@ impl Run {
                 length,
             } => {
                 let bytes = &self.source[..length];
-                S::write(lent, file, position, bytes).into()
+                S::write(memory.lend_mut(), file, position, bytes).into()
             }
-            Step::Truncate { file, n } => S::truncate(lent, file, n).into(),
-            Step::Sync { file, budget } => S::sync(lent, file, budget).into(),
-            Step::Look { file, position } => S::look(lent.lend(), file, position),
-            Step::LookCount { file, position } => S::look_count(lent.lend(), file, position).into(),
+            Step::Truncate { file, n } => S::truncate(memory.lend_mut(), file, n).into(),
+            Step::Sync { file, budget } => S::sync(memory.lend_mut(), file, budget).into(),
+            Step::Look { file, position } => S::look(memory.lend(), file, position),
+            Step::LookCount { file, position } => {
+                S::look_count(memory.lend(), file, position).into()
+            }
             Step::LeaveTail => {
                 let at =
-                    3 * FILE_BYTES + PAGE_BYTES * (lent.sizes[3] as usize).div_ceil(PAGE_BYTES);
-                lent.media[at..at + 512].copy_from_slice(&self.source[..512]);
+                    3 * FILE_BYTES + PAGE_BYTES * (memory.sizes[3] as usize).div_ceil(PAGE_BYTES);
+                memory.media[at..at + 512].copy_from_slice(&self.source[..512]);
                 0
             }
         }
