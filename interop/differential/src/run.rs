@@ -3,7 +3,7 @@
 use std::marker::PhantomData;
 
 use layout::{FILES, FILE_BYTES, FRAMES_BYTES, PAGES, PAGE_BYTES, SLOTS, STATE_MOUNTED};
-use random_calls::{fill, Answered, Call, GuardedMemory, Pair, Store};
+use random_calls::{fill, zeros_follow, Answered, Call, GuardedMemory, Pair, Store};
 use random_sessions::rng::Rng;
 use reference::model::{Entry, ModelFile};
 use reference::store::Answer;
@@ -213,10 +213,7 @@ impl<A: Store, B: Store> Run<A, B> {
                 if count != rest.len() {
                     return wrong();
                 }
-                let zeros = rest.get(answered.bytes.len()..);
-                if !rest.starts_with(&answered.bytes)
-                    || zeros.is_none_or(|zeros| zeros.iter().any(|&byte| byte != 0))
-                {
+                if !zeros_follow(&answered.bytes, rest) {
                     return Err("the bytes looked at are not the model's".to_owned());
                 }
                 tally.reads += 1;

@@ -17,7 +17,7 @@ pub use call::Call;
 pub use compare::{compare, Difference, Tally};
 pub use guarded::{Element, Guarded};
 pub use memory::{Memory, MemoryMut, MemoryRef, MemoryVec};
-pub use pair::{Answered, Pair};
+pub use pair::{zeros_follow, Answered, Pair};
 pub use random_memory::{fill, GuardedMemory};
 pub use reference_store::{decode, encode, Reference};
 pub use store::Store;

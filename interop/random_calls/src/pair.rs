@@ -169,8 +169,7 @@ impl Pair {
                 return Err(format!("the look counts {word} bytes"));
             };
             A::read(self.one.lend(), file, position, read);
-            let zeros = read.get(bytes.len()..);
-            if !read.starts_with(bytes) || zeros.is_none_or(|zeros| zeros.iter().any(|&b| b != 0)) {
+            if !zeros_follow(bytes, read) {
                 return Err(format!(
                     "the look {look:x} does not give the bytes of a read"
                 ));
@@ -178,6 +177,12 @@ impl Pair {
         }
         Ok(bytes)
     }
+}
+
+/// Whether all bytes are these, with zeros behind them.
+pub fn zeros_follow(bytes: &[u8], all: &[u8]) -> bool {
+    let rest = all.strip_prefix(bytes);
+    rest.is_some_and(|rest| rest.iter().all(|&byte| byte == 0))
 }
 
 /// A look that is done and finds no byte may name any place; a refused one has
