@@ -28,38 +28,39 @@ pub const MOUNT_WRITES: usize = FILES;
 
 /// Offset in the cache state of the byte that is 1 where the device is mounted.
 pub const STATE_MOUNTED: usize = 0;
-/// Offset of the slots.
+/// Offset in the cache state of the slots.
 pub const STATE_SLOTS: usize = STATE_MOUNTED + 1;
-/// Offset of the logical sizes.
+/// Offset in the cache state of the logical sizes.
 pub const STATE_LOGICAL: usize = STATE_SLOTS + SLOT_BYTES * SLOTS;
-/// Offset of the floors.
+/// Offset in the cache state of the floors.
 pub const STATE_FLOOR: usize = STATE_LOGICAL + SIZE_BYTES * FILES;
 /// Bytes of the cache state.
 pub const STATE_BYTES: usize = STATE_FLOOR + SIZE_BYTES * FILES;
-/// Bytes of a slot: 1 where it is used, then its file, then its page.
+/// Bytes of a slot in the cache state: 1 where it is used, or 0; its file; its
+/// page.
 pub const SLOT_BYTES: usize = 3;
-/// Bytes of a size, low byte first.
+/// Bytes of a logical size or a floor in the cache state, low byte first.
 pub const SIZE_BYTES: usize = 4;
 
-/// Offset of a slot.
+/// Offset in the cache state of a slot.
 #[inline(always)]
 pub const fn slot_at(slot: usize) -> usize {
     STATE_SLOTS + SLOT_BYTES * slot
 }
 
-/// Offset of the logical size of a file.
+/// Offset in the cache state of the logical size of a file.
 #[inline(always)]
 pub const fn logical_at(file: usize) -> usize {
     STATE_LOGICAL + SIZE_BYTES * file
 }
 
-/// Offset of the floor of a file.
+/// Offset in the cache state of the floor of a file.
 #[inline(always)]
 pub const fn floor_at(file: usize) -> usize {
     STATE_FLOOR + SIZE_BYTES * file
 }
 
-/// The size at an offset of a state.
+/// The size at an offset in a cache state.
 ///
 /// # Panics
 ///
@@ -70,7 +71,7 @@ pub fn size(state: &[u8], at: usize) -> usize {
     u32::from_le_bytes(bytes) as usize
 }
 
-/// Puts a size, below 2^32, at an offset of a state.
+/// Puts a size, below 2^32, at an offset in a cache state.
 ///
 /// # Panics
 ///
