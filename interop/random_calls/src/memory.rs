@@ -4,8 +4,8 @@ use std::ops::{Deref, DerefMut};
 
 use layout::{slot_at, FILES, FRAMES_BYTES, MEDIA_BYTES, PAGE_BYTES, SLOTS, STATE_BYTES};
 
-/// What a store works on: bytes in a `B`, numbers in an `N`, which are slices or
-/// own them.
+/// The memory of a store. `B` stands for bytes and `N` for numbers: slices,
+/// vectors, guarded ones, or a `bool` that tells something of them.
 #[derive(Copy, Debug, PartialEq, Eq)]
 pub struct Memory<B, N> {
     /// The bytes of the media.

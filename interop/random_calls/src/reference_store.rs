@@ -12,7 +12,7 @@ use crate::store::Store;
 /// The reference as a [`Store`].
 pub struct Reference;
 
-// What the reference says of its own.
+// The numbers that the reference has of its own are these.
 const _: () = assert!(
     store::FILES == FILES
         && store::FILE_MAX == layout::FILE_BYTES

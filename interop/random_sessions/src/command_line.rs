@@ -171,3 +171,87 @@ pub fn compare_on(
     let count = seeds.len();
     Ok(Some(format!("{count} seeds, {seconds:.2} s, all equal")))
 }
+
+#[cfg(test)]
+mod tests {
+    use super::*;
+
+    fn words(line: &str) -> Vec<String> {
+        line.split_whitespace().map(str::to_owned).collect()
+    }
+
+    /// A command with the option `--size`, a number, and `word`.
+    fn read(line: &str) -> Result<Options, String> {
+        Options::read(&words(line), "--calls", true, |argument, rest| {
+            match argument {
+                "--size" => number(argument, rest).map(drop)?,
+                _ => return Ok(argument == "word"),
+            }
+            Ok(true)
+        })
+    }
+
+    #[test]
+    fn options_in_any_order() {
+        let options = read("--seed 5 word --fresh --size 3 --calls 7 --seed 4").unwrap();
+        assert_eq!(options.amount(), Ok(7));
+        let seeds = Seeds {
+            given: vec![5, 4],
+            fresh: true,
+        };
+        assert_eq!(options.seeds(), Ok(seeds));
+        assert_eq!(read("--seed 5").unwrap().one_seed(), Ok(5));
+    }
+
+    #[test]
+    fn what_is_wrong_is_told() {
+        for (line, message) in [
+            ("--seed", "--seed needs a number"),
+            ("--seed -1", "--seed: '-1' is not a number"),
+            ("--size x", "--size: 'x' is not a number"),
+            ("--calls 1 --calls 1", "--calls is given twice"),
+            ("--lines 1", "unknown option '--lines'"),
+            ("words", "unexpected argument 'words'"),
+        ] {
+            assert_eq!(read(line).unwrap_err(), message);
+        }
+        let without_fresh = Options::read(&words("--fresh"), "--calls", false, |_, _| Ok(false));
+        assert_eq!(without_fresh.unwrap_err(), "unknown option '--fresh'");
+
+        let missing = "--calls is missing";
+        assert_eq!(read("").unwrap().amount(), Err(missing.to_owned()));
+        let missing = "--seed or --fresh is missing";
+        assert_eq!(read("").unwrap().seeds(), Err(missing.to_owned()));
+        for line in ["", "--seed 1 --seed 1"] {
+            let needed = "one --seed is needed";
+            assert_eq!(read(line).unwrap().one_seed(), Err(needed.to_owned()));
+        }
+    }
+
+    #[test]
+    fn help_comes_before_the_command() {
+        for line in ["", "--help", "compare -h", "other --help --seed"] {
+            assert_eq!(command(&words(line)), None);
+        }
+        let line = words("compare p");
+        assert_eq!(command(&line), Some(("compare", &line[1..])));
+    }
+
+    #[test]
+    fn a_fresh_seed_is_printed() {
+        let mut out = Vec::new();
+        let mut seeds = Seeds {
+            given: vec![3],
+            fresh: true,
+        };
+        let all = seeds.all(&mut out).unwrap();
+        assert_eq!((all.len(), all[0]), (2, 3));
+        assert_eq!(out, format!("fresh seed: {}\n", all[1]).into_bytes());
+
+        seeds = Seeds {
+            given: vec![3],
+            fresh: false,
+        };
+        assert_eq!(seeds.all(&mut out).unwrap(), [3]);
+    }
+}

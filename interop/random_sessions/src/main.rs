@@ -97,24 +97,17 @@ fn compare(
 ) -> io::Result<bool> {
     let mut executable = Executable::new(program, timeout);
     let mut tally = Tally::default();
+    let counts = |lines: usize, sessions: usize| format!("{lines} lines in {sessions} sessions");
     let end = compare_on(seeds, lines, out, |seed, lines| {
         let before = (tally.lines, tally.sessions);
         compare_seed(&mut executable, seed, lines, &mut tally)
             .map_err(|difference| difference.report(program))?;
-        Ok(format!(
-            "{} lines in {} sessions",
-            tally.lines - before.0,
-            tally.sessions - before.1
-        ))
+        Ok(counts(tally.lines - before.0, tally.sessions - before.1))
     })?;
     let Some(end) = end else {
         return Ok(false);
     };
-    writeln!(
-        out,
-        "total: {} lines in {} sessions, {end}",
-        tally.lines, tally.sessions
-    )?;
+    writeln!(out, "total: {}, {end}", counts(tally.lines, tally.sessions))?;
     writeln!(out, "{tally}")?;
     Ok(true)
 }
