@@ -10,7 +10,7 @@ use std::io::{self, Write};
 use std::process::ExitCode;
 use std::time::Duration;
 
-use boxstore::{FILE_BYTES, PAGE_BYTES};
+use layout::{FILE_BYTES, PAGE_BYTES};
 use random_calls::{store_of, Store};
 
 use others::{Named, Other, Room};
@@ -196,7 +196,7 @@ fn check(scenario: &Scenario) -> Result<(), String> {
             let what = if same_answer(step, answers.0, answers.1) {
                 different(&one, &two)
             } else {
-                Some("answers")
+                Some("answers".to_owned())
             };
             if let Some(what) = what {
                 return Err(format!(

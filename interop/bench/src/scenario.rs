@@ -2,11 +2,10 @@
 
 use std::hint::black_box;
 
-use boxstore::{
-    FILES, FILE_BYTES, FRAMES_BYTES, MEDIA_BYTES, MOUNT_WRITES, PAGE_BYTES, SLOTS, STATE_BYTES,
-    SYNC_WRITES,
+use layout::{
+    floor_at, size, slot_at, FILES, FILE_BYTES, MOUNT_WRITES, PAGE_BYTES, SLOTS, SYNC_WRITES,
 };
-use random_calls::Store;
+use random_calls::{MemoryVec, Store};
 use random_sessions::rng::Rng;
 
 /// One step of a scenario.
@@ -94,20 +93,11 @@ impl Scenario {
     }
 }
 
-/// The memory of a store.
-#[derive(Clone)]
-pub struct Memory {
-    media: Vec<u8>,
-    sizes: Vec<u32>,
-    frames: Vec<u8>,
-    state: Vec<u8>,
-}
-
 /// A device, with the buffers of the caller.
 #[derive(Clone)]
 pub struct Run {
     /// The memory of the store.
-    pub memory: Memory,
+    pub memory: MemoryVec,
     /// Takes what is read.
     pub buffer: Vec<u8>,
     /// What is written.
@@ -118,12 +108,7 @@ impl Run {
     fn new() -> Run {
         let mut rng = Rng::new(2);
         Run {
-            memory: Memory {
-                media: vec![0; MEDIA_BYTES],
-                sizes: vec![0; FILES],
-                frames: vec![0; FRAMES_BYTES],
-                state: vec![0; STATE_BYTES],
-            },
+            memory: MemoryVec::new(),
             buffer: vec![0; FILE_BYTES],
             // No byte is 0, so that a page which is lost shows.
             source: (0..FILE_BYTES).map(|_| rng.between(1, 255) as u8).collect(),
@@ -133,22 +118,17 @@ impl Run {
     /// Carries out one step and answers its word.
     #[inline(always)]
     pub fn step<S: Store>(&mut self, step: Step) -> u64 {
-        let Memory {
-            media,
-            sizes,
-            frames,
-            state,
-        } = &mut self.memory;
+        let memory = &mut self.memory;
         match step {
-            Step::Format => S::format(media, sizes, state, MOUNT_WRITES).into(),
-            Step::Mount => S::mount(media, sizes, state, MOUNT_WRITES).into(),
+            Step::Format => S::format(memory.lend_mut(), MOUNT_WRITES).into(),
+            Step::Mount => S::mount(memory.lend_mut(), MOUNT_WRITES).into(),
             Step::Read {
                 file,
                 position,
                 length,
             } => {
                 let buffer = &mut self.buffer[..length];
-                S::read(media, sizes, frames, state, file, position, buffer).into()
+                S::read(memory.lend(), file, position, buffer).into()
             }
             Step::Write {
                 file,
@@ -156,19 +136,18 @@ impl Run {
                 length,
             } => {
                 let bytes = &self.source[..length];
-                S::write(media, sizes, frames, state, file, position, bytes).into()
+                S::write(memory.lend_mut(), file, position, bytes).into()
             }
-            Step::Truncate { file, n } => S::truncate(media, sizes, frames, state, file, n).into(),
-            Step::Sync { file, budget } => {
-                S::sync(media, sizes, frames, state, file, budget).into()
-            }
-            Step::Look { file, position } => S::look(media, sizes, frames, state, file, position),
+            Step::Truncate { file, n } => S::truncate(memory.lend_mut(), file, n).into(),
+            Step::Sync { file, budget } => S::sync(memory.lend_mut(), file, budget).into(),
+            Step::Look { file, position } => S::look(memory.lend(), file, position),
             Step::LookCount { file, position } => {
-                S::look_count(media, sizes, frames, state, file, position).into()
+                S::look_count(memory.lend(), file, position).into()
             }
             Step::LeaveTail => {
-                let at = 3 * FILE_BYTES + PAGE_BYTES * (sizes[3] as usize).div_ceil(PAGE_BYTES);
-                media[at..at + 512].copy_from_slice(&self.source[..512]);
+                let at =
+                    3 * FILE_BYTES + PAGE_BYTES * (memory.sizes[3] as usize).div_ceil(PAGE_BYTES);
+                memory.media[at..at + 512].copy_from_slice(&self.source[..512]);
                 0
             }
         }
@@ -209,7 +188,7 @@ impl Run {
                 work.push(Work::Copy(count));
             }
             Step::Sync { file, .. } if number == 0 || number == 9 => {
-                let floor = number_at(&before.state, 105 + 4 * file);
+                let floor = size(&before.state, floor_at(file));
                 let mut left = count;
                 if floor < before.sizes[file] as usize && left > 0 {
                     work.push(Work::Fill(FILE_BYTES - floor));
@@ -217,8 +196,8 @@ impl Run {
                 }
                 let pages = (0..SLOTS)
                     .filter(|slot| {
-                        before.state[1 + 3 * slot] == 1
-                            && usize::from(before.state[2 + 3 * slot]) == file
+                        before.state[slot_at(*slot)] == 1
+                            && usize::from(before.state[slot_at(*slot) + 1]) == file
                     })
                     .count();
                 let pages = pages.min(left);
@@ -271,31 +250,13 @@ impl Work {
     }
 }
 
-fn number_at(state: &[u8], at: usize) -> usize {
-    let bytes = [0, 1, 2, 3].map(|i| state[at + i]);
-    u32::from_le_bytes(bytes) as usize
-}
-
 /// What differs between two devices, if something does. The bytes of free
 /// slots may.
-pub fn different(one: &Run, two: &Run) -> Option<&'static str> {
-    let (a, b) = (&one.memory, &two.memory);
-    let frame = |slot: usize| PAGE_BYTES * slot..PAGE_BYTES * (slot + 1);
+pub fn different(one: &Run, two: &Run) -> Option<String> {
     if one.buffer != two.buffer {
-        Some("buffers of reads")
-    } else if a.media != b.media {
-        Some("media")
-    } else if a.sizes != b.sizes {
-        Some("stored sizes")
-    } else if a.state != b.state {
-        Some("cache states")
-    } else if (0..SLOTS)
-        .any(|slot| a.state[1 + 3 * slot] == 1 && a.frames[frame(slot)] != b.frames[frame(slot)])
-    {
-        Some("frames")
-    } else {
-        None
+        return Some("buffers of reads".to_owned());
     }
+    one.memory.difference(&two.memory, true)
 }
 
 const START: [Step; 2] = [Step::Format, Step::Mount];
@@ -448,6 +409,7 @@ fn mixed() -> Vec<Step> {
 
 #[cfg(test)]
 mod tests {
+    use layout::{FRAMES_BYTES, STATE_LOGICAL};
     use random_calls::Reference;
 
     use super::*;
@@ -542,16 +504,16 @@ mod tests {
             (|run| run.buffer[9] ^= 1, "buffers of reads"),
             (|run| run.memory.media[9] ^= 1, "media"),
             (|run| run.memory.sizes[1] ^= 1, "stored sizes"),
-            (|run| run.memory.state[73] ^= 1, "cache states"),
-            (|run| run.memory.frames[9] ^= 1, "frames"),
+            (|run| run.memory.state[STATE_LOGICAL] ^= 1, "cache states"),
+            (|run| run.memory.frames[9] ^= 1, "frames of slot 0"),
         ];
         for (alter, what) in alter {
             let mut two = one.clone();
             alter(&mut two);
-            assert_eq!(different(&one, &two), Some(what));
+            assert_eq!(different(&one, &two).as_deref(), Some(what));
         }
         // the last slot is free
-        one.memory.frames[6_143] ^= 1;
+        one.memory.frames[FRAMES_BYTES - 1] ^= 1;
         assert_eq!(different(&one, &scenarios[4].ready::<Reference>()), None);
     }
 }

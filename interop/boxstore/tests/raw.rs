@@ -1,35 +1,27 @@
 //! The calls over memory of the caller's own: what a device cannot ask for.
 
-use boxstore::raw;
-use boxstore::{Error, FILES, FRAMES_BYTES, MEDIA_BYTES, STATE_BYTES};
+use boxstore::{
+    raw, Error, FILES, FILE_BYTES, MEDIA_BYTES, MOUNT_WRITES, STATE_BYTES, SYNC_WRITES,
+};
+use layout::{floor_at, slot_at, PAGES, STATE_MOUNTED};
+use random_calls::{Memory, MemoryMut, MemoryVec};
 
 const SHAPE: Result<usize, Error> = Err(Error::Shape);
 const BOOKS: Result<usize, Error> = Err(Error::Books);
 
-struct Memory {
-    media: Vec<u8>,
-    sizes: Vec<u32>,
-    frames: Vec<u8>,
-    state: Vec<u8>,
-}
-
 /// A device that is mounted, all files empty.
-fn mounted() -> Memory {
-    let mut memory = Memory {
-        media: vec![0; MEDIA_BYTES],
-        sizes: vec![0; FILES],
-        frames: vec![0; FRAMES_BYTES],
-        state: vec![9; STATE_BYTES],
-    };
+fn mounted() -> MemoryVec {
+    let mut memory = MemoryVec::new();
+    memory.state.fill(9);
     assert_eq!(raw::down(&mut memory.state), 0);
     assert_eq!(memory.state, [0; STATE_BYTES]);
-    let answer = raw::mount(&mut memory.media, &mut memory.sizes, &mut memory.state, 0);
-    assert_eq!(answer, 0);
+    let m = memory.lend_mut();
+    assert_eq!(raw::mount(m.media, m.sizes, m.state, 0), 0);
     memory
 }
 
 /// The answer of each call on this memory.
-fn all_calls(memory: &mut Memory) -> Vec<Result<usize, Error>> {
+fn all_calls(memory: MemoryMut<'_>) -> Vec<Result<usize, Error>> {
     let Memory {
         media,
         sizes,
@@ -42,10 +34,10 @@ fn all_calls(memory: &mut Memory) -> Vec<Result<usize, Error>> {
         raw::read(media, sizes, frames, state, 0, 0, &mut [0; 4]),
         raw::write(media, sizes, frames, state, 0, 0, &[1; 4]),
         raw::truncate(media, sizes, frames, state, 0, 0),
-        raw::sync(media, sizes, frames, state, 0, 18),
+        raw::sync(media, sizes, frames, state, 0, SYNC_WRITES),
         raw::look_count(media, sizes, frames, state, 0, 0),
-        raw::mount(media, sizes, state, 8),
-        raw::format(media, sizes, state, 8),
+        raw::mount(media, sizes, state, MOUNT_WRITES),
+        raw::format(media, sizes, state, MOUNT_WRITES),
     ]
     .map(Error::decode)
     .to_vec()
@@ -53,7 +45,7 @@ fn all_calls(memory: &mut Memory) -> Vec<Result<usize, Error>> {
 
 #[test]
 fn buffers_of_another_length() {
-    let spoils: [fn(&mut Memory); 3] = [
+    let spoils: [fn(&mut MemoryVec); 3] = [
         |memory| memory.media.truncate(MEDIA_BYTES - 1),
         |memory| memory.sizes.push(0),
         |memory| memory.state.clear(),
@@ -61,13 +53,13 @@ fn buffers_of_another_length() {
     for spoil in spoils {
         let mut memory = mounted();
         spoil(&mut memory);
-        assert_eq!(all_calls(&mut memory), [SHAPE; 7]);
+        assert_eq!(all_calls(memory.lend_mut()), [SHAPE; 7]);
     }
 
     // mount and format do not borrow the frames
     let mut memory = mounted();
     memory.frames.push(0);
-    let answers = all_calls(&mut memory);
+    let answers = all_calls(memory.lend_mut());
     assert_eq!(answers[..5], [SHAPE; 5]);
     assert_eq!(answers[5..], [Ok(0), Ok(0)]);
 
@@ -77,21 +69,21 @@ fn buffers_of_another_length() {
 #[test]
 fn states_that_are_not_sound() {
     let spoils: [fn(&mut [u8]); 6] = [
-        |state| state[0] = 2,
-        // a slot that is neither used nor free; file 8; page 16
-        |state| state[1] = 2,
-        |state| state[1..4].copy_from_slice(&[1, 8, 0]),
-        |state| state[1..4].copy_from_slice(&[1, 0, 16]),
+        |state| state[STATE_MOUNTED] = 2,
+        // a slot that is neither used nor free; no file; no page
+        |state| state[slot_at(0)] = 2,
+        |state| state[slot_at(0)..slot_at(1)].copy_from_slice(&[1, FILES as u8, 0]),
+        |state| state[slot_at(0)..slot_at(1)].copy_from_slice(&[1, 0, PAGES as u8]),
         // a page in two slots
-        |state| state[1..7].copy_from_slice(&[1, 3, 3, 1, 3, 3]),
+        |state| state[slot_at(0)..slot_at(2)].copy_from_slice(&[1, 3, 3, 1, 3, 3]),
         // a floor above the logical size
-        |state| state[105] = 1,
+        |state| state[floor_at(0)] = 1,
     ];
     for spoil in spoils {
         let mut memory = mounted();
         spoil(&mut memory.state);
         let state = memory.state.clone();
-        let answers = all_calls(&mut memory);
+        let answers = all_calls(memory.lend_mut());
         assert_eq!(answers[..5], [BOOKS; 5], "{state:?}");
         assert_eq!(answers[5..], [Ok(0), Ok(0)]);
     }
@@ -100,30 +92,15 @@ fn states_that_are_not_sound() {
 #[test]
 fn a_refusal_changes_nothing() {
     let mut memory = mounted();
-    memory.state[0] = 7;
-    let (frames, state) = (memory.frames.clone(), memory.state.clone());
+    memory.state[STATE_MOUNTED] = 7;
+    let before = memory.clone();
     let mut buffer = [5; 4];
-    let answer = raw::read(
-        &memory.media,
-        &memory.sizes,
-        &memory.frames,
-        &memory.state,
-        0,
-        0,
-        &mut buffer,
-    );
+    let m = memory.lend_mut();
+    let answer = raw::read(m.media, m.sizes, m.frames, m.state, 0, 0, &mut buffer);
     assert_eq!(Error::decode(answer), BOOKS);
-    let answer = raw::write(
-        &memory.media,
-        &memory.sizes,
-        &mut memory.frames,
-        &mut memory.state,
-        0,
-        0,
-        &[1; 4],
-    );
+    let answer = raw::write(m.media, m.sizes, m.frames, m.state, 0, 0, &[1; 4]);
     assert_eq!(Error::decode(answer), BOOKS);
-    assert_eq!((memory.frames, memory.state), (frames, state));
+    assert_eq!(memory, before);
     assert_eq!(buffer, [5; 4]);
 }
 
@@ -135,15 +112,15 @@ fn a_look_names_its_source() {
         sizes,
         frames,
         state,
-    } = &mut memory;
+    } = memory.lend_mut();
     raw::write(media, sizes, frames, state, 1, 0, &[6; 300]);
     let look = raw::look(media, sizes, frames, state, 1, 250);
     assert_eq!(look >> 16 & 65_535, 1);
     assert_eq!(raw::looked(look, media, frames), [6; 6]);
 
-    raw::sync(media, sizes, frames, state, 1, 18);
+    raw::sync(media, sizes, frames, state, 1, SYNC_WRITES);
     let look = raw::look(media, sizes, frames, state, 1, 250);
-    assert_eq!(look, (4_096 + 250) << 32 | 6);
+    assert_eq!(look, (FILE_BYTES as u64 + 250) << 32 | 6);
     assert_eq!(raw::looked(look, media, frames), [6; 6]);
 }
 

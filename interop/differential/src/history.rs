@@ -3,12 +3,12 @@
 use std::collections::VecDeque;
 use std::fmt;
 
-use random_calls::{decode, fill, Call, Memory};
+use layout::{FILES, FILE_BYTES, MOUNT_WRITES, PAGES, PAGE_BYTES, STATE_MOUNTED, SYNC_WRITES};
+use random_calls::{decode, fill, Call, GuardedMemory};
 use random_sessions::rng::Rng;
-use reference::store::{FILES, FILE_MAX, PAGE, PAGES};
 
 /// A budget that no sync, mount or format exceeds.
-pub const FULL: usize = 18;
+pub const FULL: usize = SYNC_WRITES;
 
 /// One step of a history.
 #[derive(Clone, Debug, PartialEq, Eq)]
@@ -27,7 +27,7 @@ pub enum Step {
 #[derive(Clone, Debug, PartialEq, Eq)]
 pub struct History {
     /// The memory before the first mount.
-    pub start: Memory,
+    pub start: GuardedMemory,
     /// Whether it is formatted before that.
     pub format: bool,
     /// What follows the mount.
@@ -82,8 +82,8 @@ impl Generator {
     /// any frames and state.
     pub fn start(&mut self) -> History {
         loop {
-            let start = Memory::random(&mut self.rng);
-            let stored = start.sizes.iter().all(|&size| size as usize <= FILE_MAX);
+            let start = GuardedMemory::random(&mut self.rng);
+            let stored = start.sizes.iter().all(|&size| size as usize <= FILE_BYTES);
             if start.has_right_lengths() && stored {
                 return History {
                     start,
@@ -100,11 +100,11 @@ impl Generator {
     }
 
     /// The next step, for a box with this memory.
-    pub fn step(&mut self, memory: &Memory) -> Step {
+    pub fn step(&mut self, memory: &GuardedMemory) -> Step {
         if let Some(step) = self.next.pop_front() {
             return step;
         }
-        let up = memory.state[0] == 1;
+        let up = memory.state[STATE_MOUNTED] == 1;
         let file = self.rng.below(self.files);
         let kind = if up {
             self.rng.weighted(&[34, 16, 16, 12, 10, 3, 3, 2, 2, 2])
@@ -148,7 +148,7 @@ impl Generator {
         let budget = match self.rng.below(3) {
             0 => self.rng.below(4),
             1 => FULL,
-            _ => self.rng.pick(&[8, 65_536, usize::MAX]),
+            _ => self.rng.pick(&[MOUNT_WRITES, 65_536, usize::MAX]),
         };
         Call::Mount { budget }
     }
@@ -177,15 +177,17 @@ impl Generator {
         bytes
     }
 
-    fn write(&mut self, memory: &Memory, file: usize) -> Call {
+    fn write(&mut self, memory: &GuardedMemory, file: usize) -> Call {
         let position = self.position(memory, file);
         let mut length = match self.rng.below(3) {
-            0 => self.rng.pick(&[0, 1, 5, 12, PAGE, 300, 1_000, FILE_MAX]),
-            1 => self.rng.below(PAGE + 2),
+            0 => self
+                .rng
+                .pick(&[0, 1, 5, 12, PAGE_BYTES, 300, 1_000, FILE_BYTES]),
+            1 => self.rng.below(PAGE_BYTES + 2),
             _ => self.rng.below(1_100),
         };
         if self.rng.chance(95) {
-            length = length.min(FILE_MAX.saturating_sub(position));
+            length = length.min(FILE_BYTES.saturating_sub(position));
         }
         Call::Write {
             file,
@@ -196,7 +198,7 @@ impl Generator {
 
     /// A whole file anew after a truncate: the most media writes.
     fn long_sync(&mut self, file: usize) -> Step {
-        let bytes = self.bytes(FILE_MAX);
+        let bytes = self.bytes(FILE_BYTES);
         self.next.push_back(Step::Call(Call::Write {
             file,
             position: 0,
@@ -208,12 +210,12 @@ impl Generator {
         }));
         Step::Call(Call::Truncate {
             file,
-            n: self.rng.below(PAGE),
+            n: self.rng.below(PAGE_BYTES),
         })
     }
 
     /// A shorter file that gets its stored size again before a sync.
-    fn back_to_size(&mut self, memory: &Memory, file: usize) -> Step {
+    fn back_to_size(&mut self, memory: &GuardedMemory, file: usize) -> Step {
         let stored = memory.sizes[file] as usize;
         let n = self.rng.below(stored + 1);
         let back = if self.rng.chance(50) {
@@ -234,14 +236,14 @@ impl Generator {
 
     /// A position or a size: at the border of a page, near one of the file's
     /// sizes, or anywhere; seldom beyond the greatest.
-    fn position(&mut self, memory: &Memory, file: usize) -> usize {
+    fn position(&mut self, memory: &GuardedMemory, file: usize) -> usize {
         let near = self.rng.below(7);
         let logical = decode(&memory.state).map_or(0, |state| state.logical[file]);
         match self.rng.below(12) {
-            0 | 1 => (PAGE * self.rng.below(PAGES + 1) + near).saturating_sub(3),
+            0 | 1 => (PAGE_BYTES * self.rng.below(PAGES + 1) + near).saturating_sub(3),
             2 | 3 => (logical + near).saturating_sub(3),
             4 => (memory.sizes[file] as usize + near).saturating_sub(3),
-            5 => self.rng.below(FILE_MAX + 4),
+            5 => self.rng.below(FILE_BYTES + 4),
             6 => self.rng.below(logical + 1),
             _ => self.rng.below(800),
         }

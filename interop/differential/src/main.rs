@@ -3,11 +3,10 @@
 use std::fmt::Display;
 use std::io::{self, Write};
 use std::process::ExitCode;
-use std::time::Instant;
 
 use differential::{check, Archive};
 use random_calls::{compare, Reference};
-use random_sessions::rng::fresh_seed;
+use random_sessions::command_line::{self, compare_on, Options, Seeds};
 
 const HELP: &str = "\
 differential - compares the archive of the proved store with the reference
@@ -52,61 +51,26 @@ enum Task {
     Compare {
         kind: Kind,
         amount: usize,
-        seeds: Vec<u64>,
-        fresh: bool,
+        seeds: Seeds,
     },
 }
 
 fn parse(arguments: &[String]) -> Result<Task, String> {
-    let Some((command, rest)) = arguments.split_first() else {
+    let Some((command, rest)) = command_line::command(arguments) else {
         return Ok(Task::Help);
     };
-    if arguments
-        .iter()
-        .any(|argument| argument == "--help" || argument == "-h")
-    {
-        return Ok(Task::Help);
-    }
-    let (kind, option) = match command.as_str() {
+    let (kind, amount_option) = match command {
         "calls" => (Kind::Calls, "--calls"),
         "histories" => (Kind::Histories, "--histories"),
         _ => return Err(format!("unknown command '{command}'")),
     };
-    let mut amount = None;
-    let mut seeds = Vec::new();
-    let mut fresh = false;
-    let mut rest = rest.iter();
-    while let Some(argument) = rest.next() {
-        let mut number = || -> Result<u64, String> {
-            let value = rest
-                .next()
-                .ok_or_else(|| format!("{argument} needs a number"))?;
-            value
-                .parse()
-                .map_err(|_| format!("{argument}: '{value}' is not a number"))
-        };
-        match argument.as_str() {
-            "--seed" => seeds.push(number()?),
-            "--fresh" => fresh = true,
-            _ if argument == option && amount.is_some() => {
-                return Err(format!("{option} is given twice"));
-            }
-            _ if argument == option => {
-                let value = number()?;
-                amount = Some(usize::try_from(value).map_err(|error| error.to_string())?);
-            }
-            _ if argument.starts_with('-') => return Err(format!("unknown option '{argument}'")),
-            _ => return Err(format!("unexpected argument '{argument}'")),
-        }
-    }
-    if seeds.is_empty() && !fresh {
-        return Err("--seed or --fresh is missing".to_owned());
-    }
+    let options = Options::read(rest, amount_option, true, |_, _| Ok(false))?;
+    let amount = options.amount();
+    let seeds = options.seeds()?;
     Ok(Task::Compare {
         kind,
-        amount: amount.ok_or_else(|| format!("{option} is missing"))?,
+        amount: amount?,
         seeds,
-        fresh,
     })
 }
 
@@ -165,30 +129,17 @@ fn run<C: Counts, E: Display>(
     one_seed: impl Fn(u64, usize) -> Result<C, E>,
     out: &mut impl Write,
 ) -> io::Result<bool> {
-    let start = Instant::now();
     let mut total = C::default();
-    for &seed in seeds {
-        let seed_start = Instant::now();
-        match one_seed(seed, amount.div_ceil(seeds.len())) {
-            Ok(counts) => {
-                let seconds = seed_start.elapsed().as_secs_f64();
-                writeln!(out, "seed {seed}: {}, {seconds:.2} s, equal", counts.line())?;
-                total.add(&counts);
-            }
-            Err(difference) => {
-                writeln!(out, "{difference}")?;
-                writeln!(out, "DIFFERENCE at seed {seed}")?;
-                return Ok(false);
-            }
-        }
-    }
-    let seconds = start.elapsed().as_secs_f64();
-    writeln!(
-        out,
-        "total: {}, {} seeds, {seconds:.2} s, all equal",
-        total.line(),
-        seeds.len()
-    )?;
+    let end = compare_on(seeds, amount, out, |seed, amount| {
+        let counts = one_seed(seed, amount)
+            .map_err(|difference| format!("{difference}\nDIFFERENCE at seed {seed}\n"))?;
+        total.add(&counts);
+        Ok(counts.line())
+    })?;
+    let Some(end) = end else {
+        return Ok(false);
+    };
+    writeln!(out, "total: {}, {end}", total.line())?;
     let missing = total.missing();
     if !missing.is_empty() {
         writeln!(out, "did not come up: {}", missing.join(", "))?;
@@ -203,14 +154,9 @@ fn perform(task: Task) -> io::Result<bool> {
         Task::Compare {
             kind,
             amount,
-            mut seeds,
-            fresh,
+            seeds,
         } => {
-            if fresh {
-                let seed = fresh_seed();
-                writeln!(out, "fresh seed: {seed}")?;
-                seeds.push(seed);
-            }
+            let seeds = seeds.all(&mut out)?;
             match kind {
                 Kind::Calls => run(amount, &seeds, compare::<Reference, Archive>, &mut out),
                 Kind::Histories => run(amount, &seeds, check::<Reference, Archive>, &mut out),
@@ -220,32 +166,7 @@ fn perform(task: Task) -> io::Result<bool> {
 }
 
 fn main() -> ExitCode {
-    let arguments: Result<Vec<String>, _> = std::env::args_os()
-        .skip(1)
-        .map(|argument| argument.into_string())
-        .collect();
-    let task = arguments
-        .map_err(|argument| format!("{argument:?} is not valid Unicode"))
-        .and_then(|arguments| parse(&arguments));
-    let task = match task {
-        Ok(task) => task,
-        Err(message) => {
-            // Nothing is left to do if standard error fails as well.
-            let _ = writeln!(
-                io::stderr(),
-                "differential: {message}\nTry 'differential --help'."
-            );
-            return ExitCode::from(2);
-        }
-    };
-    match perform(task) {
-        Ok(true) => ExitCode::SUCCESS,
-        Ok(false) => ExitCode::from(1),
-        Err(error) => {
-            let _ = writeln!(io::stderr(), "differential: {error}");
-            ExitCode::from(1)
-        }
-    }
+    command_line::main("differential", parse, perform)
 }
 
 #[cfg(test)]
@@ -267,8 +188,10 @@ mod tests {
             Ok(Task::Compare {
                 kind: Kind::Calls,
                 amount: 10,
-                seeds: vec![1, u64::MAX],
-                fresh: false,
+                seeds: Seeds {
+                    given: vec![1, u64::MAX],
+                    fresh: false,
+                },
             })
         );
         assert_eq!(
@@ -276,8 +199,10 @@ mod tests {
             Ok(Task::Compare {
                 kind: Kind::Histories,
                 amount: 3,
-                seeds: vec![],
-                fresh: true,
+                seeds: Seeds {
+                    given: vec![],
+                    fresh: true,
+                },
             })
         );
         for wrong in [

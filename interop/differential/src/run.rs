@@ -2,10 +2,11 @@
 
 use std::marker::PhantomData;
 
-use random_calls::{fill, Answered, Call, Memory, Pair, Store};
+use layout::{FILES, FILE_BYTES, FRAMES_BYTES, PAGES, PAGE_BYTES, SLOTS, STATE_MOUNTED};
+use random_calls::{fill, zeros_follow, Answered, Call, GuardedMemory, Pair, Store};
 use random_sessions::rng::Rng;
 use reference::model::{Entry, ModelFile};
-use reference::store::{Answer, FILES, FILE_MAX, FRAMES_LEN, PAGE, PAGES, SLOTS};
+use reference::store::Answer;
 
 use crate::history::{History, Step, FULL};
 use crate::tally::Tally;
@@ -28,7 +29,7 @@ impl<A: Store, B: Store> Run<A, B> {
     /// Mounts the box of a history.
     pub fn new(history: &History, tally: &mut Tally) -> Result<Run<A, B>, String> {
         let pair = Pair::new(&history.start);
-        let mut frames = vec![0; FRAMES_LEN];
+        let mut frames = vec![0; FRAMES_BYTES];
         fill(&mut Rng::new(0), &mut frames);
         let mut run = Run {
             other: pair.clone(),
@@ -48,7 +49,7 @@ impl<A: Store, B: Store> Run<A, B> {
         // The first mount finds what is on the media.
         run.found()?;
         run.step(&Step::Call(Call::Mount { budget: FULL }), tally)?;
-        if run.pair.memory().state[0] != 1 {
+        if run.pair.memory().state[STATE_MOUNTED] != 1 {
             return Err("the first mount is not done".to_owned());
         }
         Ok(run)
@@ -63,7 +64,7 @@ impl<A: Store, B: Store> Run<A, B> {
     }
 
     /// The memory of the second store.
-    pub fn memory(&self) -> &Memory {
+    pub fn memory(&self) -> &GuardedMemory {
         self.pair.memory()
     }
 
@@ -208,14 +209,11 @@ impl<A: Store, B: Store> Run<A, B> {
             }
             (Call::Look { file, position }, 0) => {
                 let rest = self.rest(*file, *position)?;
-                let rest = &rest[..rest.len().min(PAGE - position % PAGE)];
+                let rest = &rest[..rest.len().min(PAGE_BYTES - position % PAGE_BYTES)];
                 if count != rest.len() {
                     return wrong();
                 }
-                let zeros = rest.get(answered.bytes.len()..);
-                if !rest.starts_with(&answered.bytes)
-                    || zeros.is_none_or(|zeros| zeros.iter().any(|&byte| byte != 0))
-                {
+                if !zeros_follow(&answered.bytes, rest) {
                     return Err("the bytes looked at are not the model's".to_owned());
                 }
                 tally.reads += 1;
@@ -243,7 +241,7 @@ impl<A: Store, B: Store> Run<A, B> {
                 if count != 0 {
                     return wrong();
                 }
-                self.cached[*file][n.div_ceil(PAGE)..].fill(false);
+                self.cached[*file][n.div_ceil(PAGE_BYTES)..].fill(false);
                 self.files[*file].truncate(*n, Answer::Done(0));
                 reads_as::<B>(self.memory(), *file, &self.files[*file].current)?;
             }
@@ -284,7 +282,9 @@ impl<A: Store, B: Store> Run<A, B> {
     /// The model's bytes of a file from a position on.
     fn rest(&self, file: usize, position: usize) -> Result<&[u8], String> {
         match self.files.get(file) {
-            Some(model) if position <= FILE_MAX => Ok(model.current.get(position..).unwrap_or(&[])),
+            Some(model) if position <= FILE_BYTES => {
+                Ok(model.current.get(position..).unwrap_or(&[]))
+            }
             _ => Err(format!("a call on file {file} at {position} is done")),
         }
     }
@@ -292,7 +292,7 @@ impl<A: Store, B: Store> Run<A, B> {
     /// How many bytes a write can put down: up to the first page that is not
     /// cached while 24 are.
     fn room(&self, file: usize, position: usize, length: usize) -> usize {
-        let end = FILE_MAX.min(position + length);
+        let end = FILE_BYTES.min(position + length);
         let mut used = self
             .cached
             .iter()
@@ -301,14 +301,14 @@ impl<A: Store, B: Store> Run<A, B> {
             .count();
         let mut at = position;
         while at < end {
-            let page = at / PAGE;
+            let page = at / PAGE_BYTES;
             if !self.cached[file][page] {
                 if used == SLOTS {
                     break;
                 }
                 used += 1;
             }
-            at = end.min((page + 1) * PAGE);
+            at = end.min((page + 1) * PAGE_BYTES);
         }
         at - position
     }
@@ -316,7 +316,8 @@ impl<A: Store, B: Store> Run<A, B> {
     /// The pages of a write are cached.
     fn cache(&mut self, file: usize, position: usize, count: usize) {
         if count > 0 {
-            self.cached[file][position / PAGE..=(position + count - 1) / PAGE].fill(true);
+            self.cached[file][position / PAGE_BYTES..=(position + count - 1) / PAGE_BYTES]
+                .fill(true);
         }
     }
 
@@ -338,17 +339,9 @@ impl<A: Store, B: Store> Run<A, B> {
 }
 
 /// A read of the whole file gives these bytes, and no more.
-fn reads_as<B: Store>(memory: &Memory, file: usize, bytes: &[u8]) -> Result<(), String> {
-    let mut buffer = [0xee; FILE_MAX + 1];
-    let word = B::read(
-        &memory.media,
-        &memory.sizes,
-        &memory.frames,
-        &memory.state,
-        file,
-        0,
-        &mut buffer,
-    );
+fn reads_as<B: Store>(memory: &GuardedMemory, file: usize, bytes: &[u8]) -> Result<(), String> {
+    let mut buffer = [0xee; FILE_BYTES + 1];
+    let word = B::read(memory.lend(), file, 0, &mut buffer);
     if word as usize == bytes.len() && buffer.starts_with(bytes) {
         Ok(())
     } else {
@@ -357,8 +350,8 @@ fn reads_as<B: Store>(memory: &Memory, file: usize, bytes: &[u8]) -> Result<(), 
 }
 
 /// The bytes of a file on the media, as many as its stored size.
-fn on_media(memory: &Memory, file: usize) -> Result<&[u8], String> {
-    let bytes = &memory.media[file * FILE_MAX..(file + 1) * FILE_MAX];
+fn on_media(memory: &GuardedMemory, file: usize) -> Result<&[u8], String> {
+    let bytes = &memory.media[file * FILE_BYTES..(file + 1) * FILE_BYTES];
     bytes
         .get(..memory.sizes[file] as usize)
         .ok_or_else(|| format!("the stored size of file {file} is {}", memory.sizes[file]))

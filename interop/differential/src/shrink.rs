@@ -1,6 +1,6 @@
 //! Makes a history that shows a fault shorter and simpler.
 
-use random_calls::Memory;
+use random_calls::GuardedMemory;
 
 use crate::history::{History, Step};
 
@@ -65,14 +65,14 @@ impl<F: Fn(&History) -> Option<usize>> Shrinker<F> {
             return;
         }
         let formatted = History {
-            start: Memory::new(),
+            start: GuardedMemory::new(),
             format: true,
             ..self.best.clone()
         };
         if self.accepts(formatted) {
             return;
         }
-        for way in 0..Memory::SIMPLER {
+        for way in 0..GuardedMemory::SIMPLER {
             if let Some(start) = self.best.start.simpler(way) {
                 let steps = self.best.steps.clone();
                 self.accepts(History {
@@ -132,7 +132,7 @@ mod tests {
     #[test]
     fn no_more_tries_than_allowed() {
         let long = History {
-            start: Memory::new(),
+            start: GuardedMemory::new(),
             format: true,
             steps: vec![Step::Call(Call::Truncate { file: 7, n: 4_000 }); 40],
         };

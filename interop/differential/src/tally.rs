@@ -1,6 +1,6 @@
 //! Counts of what histories came to.
 
-use crate::history::FULL;
+use layout::{MOUNT_WRITES, SYNC_WRITES};
 
 /// What came up in histories.
 #[derive(Clone, Debug, Default, PartialEq, Eq)]
@@ -13,9 +13,9 @@ pub struct Tally {
     /// needed, and followed by a mount.
     pub cuts: usize,
     /// Of these, syncs by the media writes made.
-    pub cut_syncs: [usize; FULL],
+    pub cut_syncs: [usize; SYNC_WRITES],
     /// Of these, mounts by the media writes made.
-    pub cut_mounts: [usize; 8],
+    pub cut_mounts: [usize; MOUNT_WRITES],
     /// Mounts done, all files checked.
     pub mounts: usize,
     /// Files that a mount found with a part of the changes since their sync.
@@ -95,8 +95,8 @@ mod tests {
             histories: 1,
             calls: 2,
             cuts: 3,
-            cut_syncs: [4; FULL],
-            cut_mounts: [5; 8],
+            cut_syncs: [4; SYNC_WRITES],
+            cut_mounts: [5; MOUNT_WRITES],
             mounts: 6,
             parts: 7,
             syncs: 8,
@@ -109,8 +109,8 @@ mod tests {
             histories: 2,
             calls: 4,
             cuts: 6,
-            cut_syncs: [8; FULL],
-            cut_mounts: [10; 8],
+            cut_syncs: [8; SYNC_WRITES],
+            cut_mounts: [10; MOUNT_WRITES],
             mounts: 12,
             parts: 14,
             syncs: 16,
@@ -127,7 +127,7 @@ mod tests {
     #[test]
     fn each_cut_of_a_sync_has_to_come_up() {
         let mut tally = Tally {
-            cut_syncs: [1; FULL],
+            cut_syncs: [1; SYNC_WRITES],
             ..Tally::default()
         };
         let missing = tally.missing().len();

@@ -1,8 +1,9 @@
 //! Histories find stores with a fault.
 
 use differential::{check, Archive};
-use random_calls::{compare, decode, encode, Reference, Store};
-use reference::store::{self, CacheState, Slot, FILE_MAX, PAGE};
+use layout::{slot_at, FILE_BYTES, PAGE_BYTES, STATE_LOGICAL, STATE_SLOTS, SYNC_WRITES};
+use random_calls::{compare, decode, encode, MemoryMut, MemoryRef, MemoryVec, Reference, Store};
+use reference::store::{self, CacheState, Slot};
 
 /// Pages stored from high to low.
 const DESCENDING: usize = 1;
@@ -49,17 +50,13 @@ enum MediaWrite {
 
 impl<const FAULT: usize> Wrong<FAULT> {
     /// A sync over the media writes of the reference.
-    fn faulty_sync(
-        media: &mut [u8],
-        sizes: &mut [u32],
-        frames: &[u8],
-        state: &mut [u8],
-        file: usize,
-        budget: usize,
-    ) -> u32 {
-        let mut cache = decode(state).unwrap();
-        let (logical, floor, stored) =
-            (cache.logical[file], cache.floor[file], sizes[file] as usize);
+    fn faulty_sync(m: MemoryMut<'_>, file: usize, budget: usize) -> u32 {
+        let mut cache = decode(m.state).unwrap();
+        let (logical, floor, stored) = (
+            cache.logical[file],
+            cache.floor[file],
+            m.sizes[file] as usize,
+        );
         let mut pages: Vec<(usize, usize)> = (0..cache.slots.len())
             .filter(|&slot| cache.slots[slot].used && cache.slots[slot].file == file)
             .map(|slot| (cache.slots[slot].page, slot))
@@ -85,25 +82,25 @@ impl<const FAULT: usize> Wrong<FAULT> {
 
         let paid = match FAULT {
             ONE_TOO_MANY => budget.saturating_add(1),
-            TIMID if budget < 18 => 0,
+            TIMID if budget < SYNC_WRITES => 0,
             _ => budget,
         };
         for write in plan.iter().take(paid) {
             let result = match *write {
                 MediaWrite::Trim if FAULT == NO_TRIM && logical == stored => Ok(()),
-                MediaWrite::Trim => store::trim(media, sizes, file, floor),
+                MediaWrite::Trim => store::trim(m.media, m.sizes, file, floor),
                 MediaWrite::Page { .. } if FAULT == FIRST_SYNC && stored != 0 => Ok(()),
                 MediaWrite::Page { page, slot } => {
-                    let start = file * FILE_MAX + page * PAGE;
-                    let frame = &frames[slot * PAGE..(slot + 1) * PAGE];
-                    store::store_page(&mut media[start..start + PAGE], frame)
+                    let start = file * FILE_BYTES + page * PAGE_BYTES;
+                    let frame = &m.frames[slot * PAGE_BYTES..(slot + 1) * PAGE_BYTES];
+                    store::store_page(&mut m.media[start..start + PAGE_BYTES], frame)
                 }
-                MediaWrite::Size => store::store_size(sizes, file, logical),
+                MediaWrite::Size => store::store_size(m.sizes, file, logical),
             };
             assert_eq!(result, Ok(()));
         }
         if budget < plan.len() || (paid == 0 && FAULT == TIMID) {
-            encode(&CacheState::DOWN, state);
+            encode(&CacheState::DOWN, m.state);
             return 9 << 16 | budget as u32;
         }
         for slot in &mut cache.slots {
@@ -112,7 +109,7 @@ impl<const FAULT: usize> Wrong<FAULT> {
             }
         }
         cache.floor[file] = logical;
-        encode(&cache, state);
+        encode(&cache, m.state);
         plan.len() as u32 + u32::from(FAULT == COUNT)
     }
 }
@@ -122,19 +119,22 @@ impl<const FAULT: usize> Store for Wrong<FAULT> {
         Reference::down(state)
     }
 
-    fn format(media: &mut [u8], sizes: &mut [u32], state: &mut [u8], budget: usize) -> u32 {
-        Reference::format(media, sizes, state, budget)
+    fn format(m: MemoryMut<'_>, budget: usize) -> u32 {
+        Reference::format(m, budget)
     }
 
-    fn mount(media: &mut [u8], sizes: &mut [u32], state: &mut [u8], budget: usize) -> u32 {
-        let (bytes, before) = (media.to_vec(), state.to_vec());
-        let answer = Reference::mount(media, sizes, state, budget);
+    fn mount(mut m: MemoryMut<'_>, budget: usize) -> u32 {
+        let (bytes, before) = (m.media.to_vec(), m.state.to_vec());
+        let answer = Reference::mount(m.lend_mut(), budget);
         if answer >> 16 == 0 {
             match FAULT {
-                STALE_BYTES => media.copy_from_slice(&bytes),
-                OLD_FRAME if sizes[0] > 0 => state[1..4].copy_from_slice(&[1, 0, 0]),
-                KEPT_CACHE if decode(&before).is_some_and(|cache| cache.is_sound(sizes)) => {
-                    state[1..73].copy_from_slice(&before[1..73]);
+                STALE_BYTES => m.media.copy_from_slice(&bytes),
+                OLD_FRAME if m.sizes[0] > 0 => {
+                    m.state[slot_at(0)..slot_at(1)].copy_from_slice(&[1, 0, 0]);
+                }
+                KEPT_CACHE if decode(&before).is_some_and(|cache| cache.is_sound(m.sizes)) => {
+                    let slots = STATE_SLOTS..STATE_LOGICAL;
+                    m.state[slots.clone()].copy_from_slice(&before[slots]);
                 }
                 _ => {}
             }
@@ -142,115 +142,71 @@ impl<const FAULT: usize> Store for Wrong<FAULT> {
         answer
     }
 
-    fn read(
-        media: &[u8],
-        sizes: &[u32],
-        frames: &[u8],
-        state: &[u8],
-        file: usize,
-        position: usize,
-        buffer: &mut [u8],
-    ) -> u32 {
-        Reference::read(media, sizes, frames, state, file, position, buffer)
+    fn read(m: MemoryRef<'_>, file: usize, position: usize, buffer: &mut [u8]) -> u32 {
+        Reference::read(m, file, position, buffer)
     }
 
-    fn write(
-        media: &[u8],
-        sizes: &[u32],
-        frames: &mut [u8],
-        state: &mut [u8],
-        file: usize,
-        position: usize,
-        bytes: &[u8],
-    ) -> u32 {
-        let (old_frames, old_state) = (frames.to_vec(), state.to_vec());
-        let answer = Reference::write(media, sizes, frames, state, file, position, bytes);
+    fn write(mut m: MemoryMut<'_>, file: usize, position: usize, bytes: &[u8]) -> u32 {
+        let (old_frames, old_state) = (m.frames.to_vec(), m.state.to_vec());
+        let answer = Reference::write(m.lend_mut(), file, position, bytes);
         if answer >> 16 != 0 || answer == 0 {
             return answer;
         }
         let end = position + answer as usize;
-        for page in position / PAGE..=(end - 1) / PAGE {
-            let cache = decode(state).unwrap();
+        for page in position / PAGE_BYTES..=(end - 1) / PAGE_BYTES {
+            let cache = decode(m.state).unwrap();
             let slot = cache.slot_of(file, page).unwrap();
-            let frame = slot * PAGE;
-            let (first, last) = (position.max(page * PAGE), end.min((page + 1) * PAGE));
-            let within = frame + first % PAGE;
-            if FAULT == UNFILLED_PAGE && old_state[1 + 3 * slot] == 0 {
-                let written = frames[within..within + last - first].to_vec();
-                frames[frame..frame + PAGE].copy_from_slice(&old_frames[frame..frame + PAGE]);
-                frames[within..within + last - first].copy_from_slice(&written);
+            let frame = slot * PAGE_BYTES..(slot + 1) * PAGE_BYTES;
+            let first = position.max(page * PAGE_BYTES);
+            let last = end.min((page + 1) * PAGE_BYTES);
+            let start = frame.start + first % PAGE_BYTES;
+            let within = start..start + last - first;
+            if FAULT == UNFILLED_PAGE && old_state[slot_at(slot)] == 0 {
+                let written = m.frames[within.clone()].to_vec();
+                m.frames[frame.clone()].copy_from_slice(&old_frames[frame]);
+                m.frames[within.clone()].copy_from_slice(&written);
             }
             if FAULT == FIRST_PIECE {
-                frames[within..within + last - first].copy_from_slice(&bytes[..last - first]);
+                m.frames[within].copy_from_slice(&bytes[..last - first]);
             }
         }
         if FAULT == SIZE_AS_ASKED {
-            let mut cache = decode(state).unwrap();
+            let mut cache = decode(m.state).unwrap();
             cache.logical[file] = cache.logical[file].max(position + bytes.len());
-            encode(&cache, state);
+            encode(&cache, m.state);
         }
         answer
     }
 
-    fn truncate(
-        media: &[u8],
-        sizes: &[u32],
-        frames: &mut [u8],
-        state: &mut [u8],
-        file: usize,
-        n: usize,
-    ) -> u32 {
-        let old_frames = frames.to_vec();
-        let answer = Reference::truncate(media, sizes, frames, state, file, n);
+    fn truncate(mut m: MemoryMut<'_>, file: usize, n: usize) -> u32 {
+        let old_frames = m.frames.to_vec();
+        let answer = Reference::truncate(m.lend_mut(), file, n);
         if answer == 0 && FAULT == TAIL_KEPT {
-            frames.copy_from_slice(&old_frames);
+            m.frames.copy_from_slice(&old_frames);
         }
         if answer == 0 && FAULT == LATEST_TRUNCATE {
-            let mut cache = decode(state).unwrap();
-            cache.floor[file] = n.min(sizes[file] as usize);
-            encode(&cache, state);
+            let mut cache = decode(m.state).unwrap();
+            cache.floor[file] = n.min(m.sizes[file] as usize);
+            encode(&cache, m.state);
         }
         answer
     }
 
-    fn sync(
-        media: &mut [u8],
-        sizes: &mut [u32],
-        frames: &[u8],
-        state: &mut [u8],
-        file: usize,
-        budget: usize,
-    ) -> u32 {
-        // the refusals, on copies
-        let (media_copy, sizes_copy) = (&mut media.to_vec(), &mut sizes.to_vec());
-        let state_copy = &mut state.to_vec();
-        let answer = Reference::sync(media_copy, sizes_copy, frames, state_copy, file, budget);
+    fn sync(m: MemoryMut<'_>, file: usize, budget: usize) -> u32 {
+        // the refusals, on a copy
+        let answer = Reference::sync(MemoryVec::from(m.lend()).lend_mut(), file, budget);
         if (2..=8).contains(&(answer >> 16)) {
             return answer;
         }
-        Self::faulty_sync(media, sizes, frames, state, file, budget)
+        Self::faulty_sync(m, file, budget)
     }
 
-    fn look_count(
-        media: &[u8],
-        sizes: &[u32],
-        frames: &[u8],
-        state: &[u8],
-        file: usize,
-        position: usize,
-    ) -> u32 {
-        Reference::look_count(media, sizes, frames, state, file, position)
+    fn look_count(m: MemoryRef<'_>, file: usize, position: usize) -> u32 {
+        Reference::look_count(m, file, position)
     }
 
-    fn look(
-        media: &[u8],
-        sizes: &[u32],
-        frames: &[u8],
-        state: &[u8],
-        file: usize,
-        position: usize,
-    ) -> u64 {
-        Reference::look(media, sizes, frames, state, file, position)
+    fn look(m: MemoryRef<'_>, file: usize, position: usize) -> u64 {
+        Reference::look(m, file, position)
     }
 
     fn truncate_sizes(sizes: &mut [u32], n: usize, greatest: u32) -> u32 {
@@ -261,12 +217,12 @@ impl<const FAULT: usize> Store for Wrong<FAULT> {
         Reference::write_page(page, bytes)
     }
 
-    fn write_size(media: &[u8], sizes: &mut [u32], file: usize, n: usize) -> u32 {
-        Reference::write_size(media, sizes, file, n)
+    fn write_size(m: MemoryMut<'_>, file: usize, n: usize) -> u32 {
+        Reference::write_size(m, file, n)
     }
 
-    fn trim(media: &mut [u8], sizes: &mut [u32], file: usize, n: usize) -> u32 {
-        Reference::trim(media, sizes, file, n)
+    fn trim(m: MemoryMut<'_>, file: usize, n: usize) -> u32 {
+        Reference::trim(m, file, n)
     }
 }
 

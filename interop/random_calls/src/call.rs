@@ -2,11 +2,12 @@
 
 use std::fmt;
 
+use layout::{FILES, FILE_BYTES, MOUNT_WRITES, PAGES, PAGE_BYTES, SYNC_WRITES};
 use random_sessions::rng::Rng;
-use reference::store::{FILES, FILE_MAX, PAGE, PAGES};
 
 use crate::guarded::{Element, Guarded};
-use crate::memory::{fill, Memory};
+use crate::memory::Memory;
+use crate::random_memory::{fill, GuardedMemory};
 use crate::store::Store;
 use crate::text::Bytes;
 
@@ -135,7 +136,7 @@ impl Call {
                 let position = position(rng);
                 let mut length = length(rng);
                 if rng.chance(80) {
-                    length = length.min(FILE_MAX.saturating_sub(position));
+                    length = length.min(FILE_BYTES.saturating_sub(position));
                 }
                 Call::Write {
                     file: file(rng),
@@ -157,7 +158,15 @@ impl Call {
             },
             8 => Call::random_truncate_sizes(rng),
             9 => {
-                let lengths = [PAGE, PAGE, PAGE, PAGE, 0, PAGE - 1, PAGE + 1];
+                let lengths = [
+                    PAGE_BYTES,
+                    PAGE_BYTES,
+                    PAGE_BYTES,
+                    PAGE_BYTES,
+                    0,
+                    PAGE_BYTES - 1,
+                    PAGE_BYTES + 1,
+                ];
                 let (page, bytes) = (rng.pick(&lengths), rng.pick(&lengths));
                 Call::WritePage {
                     page: random_bytes(rng, page),
@@ -225,20 +234,43 @@ impl Call {
         }
     }
 
-    /// What of the memory the call may write: media, sizes, frames, state.
-    pub(crate) fn may_write(&self) -> [bool; 4] {
+    /// What of the memory the call may write.
+    pub(crate) fn may_write(&self) -> Memory<bool, bool> {
+        let none = Memory {
+            media: false,
+            sizes: false,
+            frames: false,
+            state: false,
+        };
         match self {
-            Call::Down => [false, false, false, true],
-            Call::Format { .. } | Call::Mount { .. } | Call::Sync { .. } => {
-                [true, true, false, true]
-            }
-            Call::Write { .. } | Call::Truncate { .. } => [false, false, true, true],
-            Call::WriteSize { .. } => [false, true, false, false],
-            Call::Trim { .. } => [true, true, false, false],
+            Call::Down => Memory {
+                state: true,
+                ..none
+            },
+            Call::Format { .. } | Call::Mount { .. } | Call::Sync { .. } => Memory {
+                media: true,
+                sizes: true,
+                state: true,
+                ..none
+            },
+            Call::Write { .. } | Call::Truncate { .. } => Memory {
+                frames: true,
+                state: true,
+                ..none
+            },
+            Call::WriteSize { .. } => Memory {
+                sizes: true,
+                ..none
+            },
+            Call::Trim { .. } => Memory {
+                media: true,
+                sizes: true,
+                ..none
+            },
             Call::Read { .. }
             | Call::Look { .. }
             | Call::TruncateSizes { .. }
-            | Call::WritePage { .. } => [false; 4],
+            | Call::WritePage { .. } => none,
         }
     }
 
@@ -295,44 +327,30 @@ impl Call {
     }
 
     /// Carries the call out, on slices that lie between guards.
-    pub fn run<S: Store>(&mut self, memory: &mut Memory) -> Ran {
-        let Memory {
-            media,
-            sizes,
-            frames,
-            state,
-        } = memory;
+    pub fn run<S: Store>(&mut self, memory: &mut GuardedMemory) -> Ran {
+        let lent = memory.lend_mut();
         let mut look = 0;
         let (word, intact) = match self {
-            Call::Down => (S::down(state), true),
-            Call::Format { budget } => (S::format(media, sizes, state, *budget), true),
-            Call::Mount { budget } => (S::mount(media, sizes, state, *budget), true),
+            Call::Down => (S::down(lent.state), true),
+            Call::Format { budget } => (S::format(lent, *budget), true),
+            Call::Mount { budget } => (S::mount(lent, *budget), true),
             Call::Read {
                 file,
                 position,
                 buffer,
             } => guarded(buffer, |buffer| {
-                S::read(media, sizes, frames, state, *file, *position, buffer)
+                S::read(lent.lend(), *file, *position, buffer)
             }),
             Call::Write {
                 file,
                 position,
                 bytes,
-            } => guarded(bytes, |bytes| {
-                S::write(media, sizes, frames, state, *file, *position, bytes)
-            }),
-            Call::Truncate { file, n } => {
-                let word = S::truncate(media, sizes, frames, state, *file, *n);
-                (word, true)
-            }
-            Call::Sync { file, budget } => {
-                let word = S::sync(media, sizes, frames, state, *file, *budget);
-                (word, true)
-            }
+            } => guarded(bytes, |bytes| S::write(lent, *file, *position, bytes)),
+            Call::Truncate { file, n } => (S::truncate(lent, *file, *n), true),
+            Call::Sync { file, budget } => (S::sync(lent, *file, *budget), true),
             Call::Look { file, position } => {
-                let word = S::look_count(media, sizes, frames, state, *file, *position);
-                look = S::look(media, sizes, frames, state, *file, *position);
-                (word, true)
+                look = S::look(lent.lend(), *file, *position);
+                (S::look_count(lent.lend(), *file, *position), true)
             }
             Call::TruncateSizes {
                 record,
@@ -345,8 +363,8 @@ impl Call {
                 });
                 (word, bytes_intact && page_intact)
             }
-            Call::WriteSize { file, n } => (S::write_size(media, sizes, *file, *n), true),
-            Call::Trim { file, n } => (S::trim(media, sizes, *file, *n), true),
+            Call::WriteSize { file, n } => (S::write_size(lent, *file, *n), true),
+            Call::Trim { file, n } => (S::trim(lent, *file, *n), true),
         };
         Ran {
             word,
@@ -451,7 +469,7 @@ fn number(rng: &mut Rng) -> usize {
 fn file(rng: &mut Rng) -> usize {
     match rng.below(40) {
         0 => number(rng),
-        1 => rng.pick(&[8, 9, 256, 1 << 32, usize::MAX]),
+        1 => rng.pick(&[FILES, FILES + 1, 256, 1 << 32, usize::MAX]),
         _ => rng.below(FILES),
     }
 }
@@ -460,13 +478,13 @@ fn file(rng: &mut Rng) -> usize {
 /// beyond.
 fn position(rng: &mut Rng) -> usize {
     match rng.below(20) {
-        0..=11 => rng.below(FILE_MAX + 1),
-        12..=15 => (rng.below(PAGES + 1) * PAGE + rng.below(3)).saturating_sub(1),
+        0..=11 => rng.below(FILE_BYTES + 1),
+        12..=15 => (rng.below(PAGES + 1) * PAGE_BYTES + rng.below(3)).saturating_sub(1),
         16 | 17 => 0,
         18 => number(rng),
         _ => rng.pick(&[
-            FILE_MAX,
-            FILE_MAX + 1,
+            FILE_BYTES,
+            FILE_BYTES + 1,
             65_536,
             1 << 32,
             (1 << 32) + 5,
@@ -481,11 +499,11 @@ fn length(rng: &mut Rng) -> usize {
         0 => 0,
         1 | 2 => rng.below(32),
         3 | 4 => rng.below(600),
-        5 => rng.below(17) * PAGE,
-        6 => rng.below(FILE_MAX + 1),
+        5 => rng.below(PAGES + 1) * PAGE_BYTES,
+        6 => rng.below(FILE_BYTES + 1),
         // more than the count of an answer can tell
-        _ if rng.chance(4) => 65_536 + rng.below(PAGE),
-        _ => rng.pick(&[1, 8, 12, FILE_MAX, FILE_MAX + 1, 5_000]),
+        _ if rng.chance(4) => 65_536 + rng.below(PAGE_BYTES),
+        _ => rng.pick(&[1, 8, 12, FILE_BYTES, FILE_BYTES + 1, 5_000]),
     }
 }
 
@@ -494,7 +512,14 @@ fn budget(rng: &mut Rng) -> usize {
         0 | 1 => rng.below(4),
         2 | 3 => rng.below(20),
         4 => number(rng),
-        _ => rng.pick(&[8, 18, 65_535, 65_536, 1 << 32, usize::MAX]),
+        _ => rng.pick(&[
+            MOUNT_WRITES,
+            SYNC_WRITES,
+            65_535,
+            65_536,
+            1 << 32,
+            usize::MAX,
+        ]),
     }
 }
 

@@ -5,8 +5,8 @@ use std::fmt;
 use random_sessions::rng::Rng;
 
 use crate::call::{Call, KINDS};
-use crate::memory::Memory;
 use crate::pair::Pair;
+use crate::random_memory::GuardedMemory;
 use crate::shrink::shrink;
 use crate::store::Store;
 
@@ -73,7 +73,7 @@ impl Tally {
         missing
     }
 
-    fn count(&mut self, memory: &Memory) {
+    fn count(&mut self, memory: &GuardedMemory) {
         let kind = match memory {
             memory if !memory.has_right_lengths() => &mut self.wrong_lengths,
             memory if memory.is_sound() => &mut self.sound,
@@ -92,7 +92,7 @@ pub struct Difference {
     /// What is wrong.
     pub what: String,
     /// The memory before the call, made simpler where the difference stayed.
-    pub memory: Memory,
+    pub memory: GuardedMemory,
     /// The call, made simpler alike.
     pub call: Call,
 }
@@ -121,7 +121,7 @@ pub fn compare<A: Store, B: Store>(seed: u64, calls: usize) -> Result<Tally, Box
     let mut rng = Rng::new(seed);
     let mut tally = Tally::default();
     while tally.calls() < calls {
-        let start = Memory::random(&mut rng);
+        let start = GuardedMemory::random(&mut rng);
         let mut pair = Pair::new(&start);
         let mut made: Vec<Call> = Vec::new();
         for _ in 0..CALLS {
@@ -150,10 +150,10 @@ fn simplest<A: Store, B: Store>(
     seed: u64,
     index: usize,
     what: String,
-    memory: Memory,
+    memory: GuardedMemory,
     call: Call,
 ) -> Box<Difference> {
-    let wrong = |memory: &Memory, call: &Call| Pair::new(memory).call::<A, B>(call).err();
+    let wrong = |memory: &GuardedMemory, call: &Call| Pair::new(memory).call::<A, B>(call).err();
     let (memory, call) = shrink(memory, call, |memory, call| wrong(memory, call).is_some());
     Box::new(Difference {
         seed,

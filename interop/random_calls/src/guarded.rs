@@ -27,13 +27,6 @@ pub struct Guarded<T> {
 }
 
 impl<T: Element> Guarded<T> {
-    /// A slice with this value everywhere.
-    pub fn new(value: T, length: usize) -> Guarded<T> {
-        let mut guarded = Guarded::from(&[][..]);
-        guarded.resize(length, value);
-        guarded
-    }
-
     /// Gives the slice another length; what is added has this value.
     pub fn resize(&mut self, length: usize, value: T) {
         self.elements.truncate(self.elements.len() - GUARD);
@@ -63,6 +56,12 @@ impl<T: Element> From<&[T]> for Guarded<T> {
         Guarded {
             elements: [&guard, slice, &guard].concat(),
         }
+    }
+}
+
+impl<T: Element> From<Vec<T>> for Guarded<T> {
+    fn from(elements: Vec<T>) -> Guarded<T> {
+        Guarded::from(&*elements)
     }
 }
 
@@ -114,8 +113,8 @@ mod tests {
 
     #[test]
     fn a_write_beside_the_slice_shows() {
-        for length in [0, 1, 137] {
-            let guarded = Guarded::new(7, length);
+        for length in [0, 1, 100] {
+            let guarded = Guarded::from(vec![7; length]);
             assert_eq!(*guarded, vec![7; length]);
             assert!(guarded.is_intact());
             for past in [false, true] {

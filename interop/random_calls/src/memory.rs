@@ -1,325 +1,131 @@
-//! Random memory for calls.
+//! The memory of a store.
 
-use std::fmt;
+use std::ops::{Deref, DerefMut};
 
-use random_sessions::rng::Rng;
-use reference::store::{
-    CacheState, Slot, FILES, FILE_MAX, FRAMES_LEN, MEDIA_LEN, PAGE, PAGES, SLOTS,
-};
+use layout::{slot_at, FILES, FRAMES_BYTES, MEDIA_BYTES, PAGE_BYTES, SLOTS, STATE_BYTES};
 
-use crate::guarded::Guarded;
-use crate::reference_store::{decode, encode, STATE_LEN};
-use crate::text::Bytes;
-
-/// What a call of the store works on, between guards.
-#[derive(Clone, Debug, PartialEq, Eq)]
-pub struct Memory {
+/// The memory of a store. `B` stands for bytes and `N` for numbers: slices,
+/// vectors, guarded ones, or a `bool` that tells something of them.
+#[derive(Copy, Debug, PartialEq, Eq)]
+pub struct Memory<B, N> {
     /// The bytes of the media.
-    pub media: Guarded<u8>,
+    pub media: B,
     /// The stored sizes.
-    pub sizes: Guarded<u32>,
+    pub sizes: N,
     /// The bytes of the cached pages.
-    pub frames: Guarded<u8>,
+    pub frames: B,
     /// The cache state.
-    pub state: Guarded<u8>,
+    pub state: B,
 }
 
-impl Memory {
-    /// Media all 0, down.
-    pub fn new() -> Memory {
+/// Memory lent to a call that only reads it.
+pub type MemoryRef<'a> = Memory<&'a [u8], &'a [u32]>;
+/// Memory lent to a call that may write some of it.
+pub type MemoryMut<'a> = Memory<&'a mut [u8], &'a mut [u32]>;
+/// Memory in vectors.
+pub type MemoryVec = Memory<Vec<u8>, Vec<u32>>;
+
+impl<B: Clone, N: Clone> Clone for Memory<B, N> {
+    fn clone(&self) -> Memory<B, N> {
         Memory {
-            media: Guarded::new(0, MEDIA_LEN),
-            sizes: Guarded::new(0, FILES),
-            frames: Guarded::new(0, FRAMES_LEN),
-            state: Guarded::new(0, STATE_LEN),
+            media: self.media.clone(),
+            sizes: self.sizes.clone(),
+            frames: self.frames.clone(),
+            state: self.state.clone(),
         }
     }
 
-    /// Random memory: about half of it is sound and up. The rest has one thing
-    /// wrong, or several, so that the order of the refusals shows.
-    pub fn random(rng: &mut Rng) -> Memory {
-        let mut memory = Memory::sound(rng);
-        match rng.weighted(&[12, 1, 4, 2]) {
-            0 => {}
-            1 => memory.state.fill(0),
-            2 => memory.spoil_state(rng),
-            _ => memory.random_state(rng),
-        }
-        if rng.chance(12) {
-            memory.spoil_sizes(rng);
-        }
-        if rng.chance(12) {
-            memory.spoil_lengths(rng);
-        }
-        memory
+    fn clone_from(&mut self, other: &Memory<B, N>) {
+        self.media.clone_from(&other.media);
+        self.sizes.clone_from(&other.sizes);
+        self.frames.clone_from(&other.frames);
+        self.state.clone_from(&other.state);
     }
+}
 
-    /// Whether the four have the lengths that calls need.
-    pub fn has_right_lengths(&self) -> bool {
-        self.media.len() == MEDIA_LEN
-            && self.sizes.len() == FILES
-            && self.frames.len() == FRAMES_LEN
-            && self.state.len() == STATE_LEN
-    }
-
-    /// Whether the guards of the four are as they were made.
-    pub fn is_intact(&self) -> bool {
-        self.media.is_intact()
-            && self.sizes.is_intact()
-            && self.frames.is_intact()
-            && self.state.is_intact()
-    }
-
-    /// Whether the cache state is sound beside the stored sizes.
-    pub fn is_sound(&self) -> bool {
-        decode(&self.state).is_some_and(|state| state.is_sound(&self.sizes))
-    }
-
-    /// The number of ways to make memory simpler.
-    pub const SIMPLER: usize = 3 + 6 * FILES + 2 * SLOTS;
-
-    /// The memory with one thing made simpler, for each way another; nothing
-    /// where it is simple there already.
-    pub fn simpler(&self, way: usize) -> Option<Memory> {
-        let mut memory = self.clone();
-        let Memory {
-            media,
-            sizes,
-            frames,
-            state,
-        } = &mut memory;
-        let file = way % FILES;
-        let (logical, floor) = (73 + 4 * file, 105 + 4 * file);
-        let slot = way % SLOTS;
-        match way / FILES {
-            0 => clear(media, file * FILE_MAX, FILE_MAX),
-            1 => clear(sizes, file, 1),
-            2 => clear(state, floor, 4),
-            3 => {
-                clear(state, logical, 4);
-                clear(state, floor, 4);
-            }
-            4 => {
-                clear(sizes, file, 1);
-                clear(state, logical, 4);
-                clear(state, floor, 4);
-            }
-            5 if state.len() >= floor + 4 => state.copy_within(floor..floor + 4, logical),
-            5 => {}
-            6..=8 => clear(state, 1 + 3 * slot, 3),
-            9..=11 => clear(frames, slot * PAGE, PAGE),
-            _ => [media, frames, state][way % FILES].fill(0),
-        }
-        (memory != *self).then_some(memory)
-    }
-
-    /// Memory with a sound state that is up.
-    fn sound(rng: &mut Rng) -> Memory {
-        let mut memory = Memory::new();
-        let mut state = CacheState {
-            mounted: 1,
-            ..CacheState::DOWN
-        };
-        fill(rng, &mut memory.frames);
-        for file in 0..FILES {
-            let stored = size(rng, FILE_MAX);
-            let floor = if rng.chance(60) {
-                stored
-            } else {
-                size(rng, stored)
-            };
-            let logical = if rng.chance(60) {
-                floor
-            } else {
-                floor + size(rng, FILE_MAX - floor)
-            };
-            memory.sizes[file] = stored as u32;
-            state.floor[file] = floor;
-            state.logical[file] = logical;
-
-            let bytes = &mut memory.media[file * FILE_MAX..(file + 1) * FILE_MAX];
-            match rng.below(4) {
-                // bytes past the stored size, as a sync that was cut leaves
-                0 => fill(rng, bytes),
-                // a single one
-                1 if stored < FILE_MAX => {
-                    fill(rng, &mut bytes[..stored]);
-                    bytes[rng.between(stored, FILE_MAX - 1)] = 1;
-                }
-                2 => {}
-                _ => fill(rng, &mut bytes[..stored]),
-            }
-        }
-        let used = match rng.below(4) {
-            0 => 0,
-            1 => SLOTS,
-            2 => rng.below(4),
-            _ => rng.below(SLOTS + 1),
-        };
-        // few files, so that they have several pages cached
-        let files = rng.between(2, FILES);
-        let spread = rng.chance(50);
-        let mut taken = 0;
-        while taken < used {
-            let (file, page) = (rng.below(files), rng.below(PAGES));
-            let slot = if spread { rng.below(SLOTS) } else { taken };
-            if !state.slots[slot].used && state.slot_of(file, page).is_none() {
-                state.slots[slot] = Slot {
-                    used: true,
-                    file,
-                    page,
-                };
-                taken += 1;
-            }
-        }
-        encode(&state, &mut memory.state);
-        memory
-    }
-
-    /// Alters the state in one place, so that it is mostly no longer sound.
-    fn spoil_state(&mut self, rng: &mut Rng) {
-        let slot = 1 + 3 * rng.below(SLOTS);
-        let file = rng.below(FILES);
-        match rng.below(6) {
-            0 => self.state[0] = rng.pick(&[0, 2, 3, 128, 255]),
-            1 => {
-                let other = 1 + 3 * rng.below(SLOTS);
-                self.state.copy_within(other..other + 3, slot);
-            }
-            2 => self.state[slot + rng.below(3)] = rng.pick(&[0, 1, 2, 7, 8, 15, 16, 128, 255]),
-            3 => {
-                let value = rng.pick(&[0, 1, 4_096, 4_097, 8_192, 1 << 31, u32::MAX]);
-                let at = 73 + 32 * rng.below(2) + 4 * file;
-                self.state[at..at + 4].copy_from_slice(&value.to_le_bytes());
-            }
-            4 => {
-                let at = rng.below(STATE_LEN);
-                self.state[at] ^= 1 << rng.below(8);
-            }
-            // down, but for one byte
-            _ => {
-                let at = rng.below(STATE_LEN);
-                self.state.fill(0);
-                self.state[at] = rng.pick(&[0, 1, 255]);
-            }
-        }
-    }
-
-    /// Alters a stored size.
-    fn spoil_sizes(&mut self, rng: &mut Rng) {
-        let value = rng.pick(&[0, 1, 4_095, 4_096, 4_097, 65_536, 1 << 31, u32::MAX]);
-        self.sizes[rng.below(FILES)] = value;
-    }
-
-    fn random_state(&mut self, rng: &mut Rng) {
-        let greatest = rng.pick(&[1, 2, 16, 255]);
-        for byte in self.state.iter_mut() {
-            *byte = rng.between(0, greatest) as u8;
-        }
-        if rng.chance(70) {
-            self.state[0] = 1;
-        }
-    }
-
-    /// Gives one of the four another length, or several.
-    fn spoil_lengths(&mut self, rng: &mut Rng) {
-        loop {
-            match rng.below(4) {
-                0 => self.media.resize(other_length(rng, MEDIA_LEN), 1),
-                1 => self.sizes.resize(other_length(rng, FILES), 1),
-                2 => self.frames.resize(other_length(rng, FRAMES_LEN), 1),
-                _ => self.state.resize(other_length(rng, STATE_LEN), 0),
-            }
-            if rng.chance(80) {
-                return;
-            }
+impl<B: From<Vec<u8>>, N: From<Vec<u32>>> Memory<B, N> {
+    /// Media all 0, down.
+    pub fn new() -> Memory<B, N> {
+        Memory {
+            media: vec![0; MEDIA_BYTES].into(),
+            sizes: vec![0; FILES].into(),
+            frames: vec![0; FRAMES_BYTES].into(),
+            state: vec![0; STATE_BYTES].into(),
         }
     }
 }
 
-/// The cache state decoded, and of the rest what is not 0.
-impl fmt::Display for Memory {
-    fn fmt(&self, f: &mut fmt::Formatter<'_>) -> fmt::Result {
-        writeln!(f, "  stored sizes {:?}", self.sizes)?;
-        match decode(&self.state) {
-            Some(state) => {
-                let mark = match state.mounted {
-                    0 => "down".to_owned(),
-                    1 => "mounted".to_owned(),
-                    other => format!("mark {other}"),
-                };
-                writeln!(f, "  state: {mark}")?;
-                writeln!(f, "    logical sizes {:?}", state.logical)?;
-                writeln!(f, "    floors {:?}", state.floor)?;
-                for (index, slot) in state.slots.iter().enumerate() {
-                    if *slot != Slot::FREE {
-                        let use_of = if slot.used { "file" } else { "free, file" };
-                        writeln!(
-                            f,
-                            "    slot {index}: {use_of} {} page {}",
-                            slot.file, slot.page
-                        )?;
-                    }
-                }
-            }
-            None => writeln!(f, "  state: {} bytes {:?}", self.state.len(), self.state)?,
-        }
-        for (name, bytes, piece) in [
-            ("media of file", &self.media, FILE_MAX),
-            ("frames of slot", &self.frames, PAGE),
-        ] {
-            for (index, bytes) in bytes.chunks(piece).enumerate() {
-                if bytes.iter().any(|&byte| byte != 0) {
-                    writeln!(f, "  {name} {index}: {}", Bytes(bytes))?;
-                }
-            }
-        }
-        write!(
-            f,
-            "  lengths: media {}, sizes {}, frames {}, state {}",
-            self.media.len(),
-            self.sizes.len(),
-            self.frames.len(),
-            self.state.len()
-        )
-    }
-}
-
-impl Default for Memory {
-    fn default() -> Memory {
+impl<B: From<Vec<u8>>, N: From<Vec<u32>>> Default for Memory<B, N> {
+    fn default() -> Memory<B, N> {
         Memory::new()
     }
 }
 
-fn other_length(rng: &mut Rng, length: usize) -> usize {
-    match rng.below(6) {
-        0 => rng.below(2 * length),
-        _ => rng.pick(&[0, 1, length - 1, length + 1, 2 * length]),
+impl<B: Deref<Target = [u8]>, N: Deref<Target = [u32]>> Memory<B, N> {
+    /// Lends it for reading.
+    #[inline(always)]
+    pub fn lend(&self) -> MemoryRef<'_> {
+        Memory {
+            media: &self.media,
+            sizes: &self.sizes,
+            frames: &self.frames,
+            state: &self.state,
+        }
+    }
+
+    /// Whether the four have the lengths that calls need.
+    pub fn has_right_lengths(&self) -> bool {
+        self.media.len() == MEDIA_BYTES
+            && self.sizes.len() == FILES
+            && self.frames.len() == FRAMES_BYTES
+            && self.state.len() == STATE_BYTES
+    }
+
+    /// What of another memory differs, if something does. Of the frames only
+    /// those of used slots, where `used_only` says so.
+    pub fn difference(&self, other: &Memory<B, N>, used_only: bool) -> Option<String> {
+        let (one, two) = (self.lend(), other.lend());
+        let what = if one.media != two.media {
+            "media"
+        } else if one.sizes != two.sizes {
+            "stored sizes"
+        } else if one.state != two.state {
+            "cache states"
+        } else if used_only {
+            let slot = (0..SLOTS).find(|&slot| {
+                let frame = slot * PAGE_BYTES..(slot + 1) * PAGE_BYTES;
+                one.state[slot_at(slot)] == 1 && one.frames[frame.clone()] != two.frames[frame]
+            })?;
+            return Some(format!("frames of slot {slot}"));
+        } else if one.frames != two.frames {
+            "frames"
+        } else {
+            return None;
+        };
+        Some(what.to_owned())
     }
 }
 
-/// Makes a part 0, where it is there.
-fn clear<T: Default + Clone>(values: &mut [T], start: usize, length: usize) {
-    if let Some(part) = values.get_mut(start..start + length) {
-        part.fill(T::default());
+impl From<MemoryRef<'_>> for MemoryVec {
+    fn from(memory: MemoryRef<'_>) -> MemoryVec {
+        Memory {
+            media: memory.media.to_vec(),
+            sizes: memory.sizes.to_vec(),
+            frames: memory.frames.to_vec(),
+            state: memory.state.to_vec(),
+        }
     }
 }
 
-/// A size up to `limit`, often at a limit or at the border of a page.
-fn size(rng: &mut Rng, limit: usize) -> usize {
-    match rng.below(6) {
-        0 => 0,
-        1 => limit,
-        2 => (rng.below(17) * 256).min(limit),
-        3 => (rng.below(17) * 256 + 1).min(limit),
-        _ => rng.between(0, limit),
-    }
-}
-
-/// Fills a slice with random bytes.
-pub fn fill(rng: &mut Rng, bytes: &mut [u8]) {
-    for chunk in bytes.chunks_mut(8) {
-        let random = rng.next_u64().to_le_bytes();
-        chunk.copy_from_slice(&random[..chunk.len()]);
+impl<B: DerefMut<Target = [u8]>, N: DerefMut<Target = [u32]>> Memory<B, N> {
+    /// Lends it for writing.
+    #[inline(always)]
+    pub fn lend_mut(&mut self) -> MemoryMut<'_> {
+        Memory {
+            media: &mut self.media,
+            sizes: &mut self.sizes,
+            frames: &mut self.frames,
+            state: &mut self.state,
+        }
     }
 }

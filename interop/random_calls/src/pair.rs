@@ -1,17 +1,17 @@
 //! One call on two stores.
 
-use reference::store::{PAGE, SLOTS};
+use layout::PAGE_BYTES;
 
 use crate::call::{Call, Ran};
 use crate::guarded::Guarded;
-use crate::memory::Memory;
+use crate::random_memory::GuardedMemory;
 use crate::store::Store;
 
 /// The memory of two stores that are given the same calls.
 #[derive(Clone, Debug)]
 pub struct Pair {
-    one: Memory,
-    two: Memory,
+    one: GuardedMemory,
+    two: GuardedMemory,
     /// Whether the frames of free slots may differ.
     apart: bool,
     /// The frames of `two` before a call.
@@ -44,7 +44,7 @@ impl Answered {
 
 impl Pair {
     /// Both stores on the same memory.
-    pub fn new(start: &Memory) -> Pair {
+    pub fn new(start: &GuardedMemory) -> Pair {
         Pair {
             one: start.clone(),
             two: start.clone(),
@@ -55,17 +55,13 @@ impl Pair {
 
     /// Becomes the same as another pair.
     pub fn set(&mut self, other: &Pair) {
-        for (mine, theirs) in [(&mut self.one, &other.one), (&mut self.two, &other.two)] {
-            mine.media.clone_from(&theirs.media);
-            mine.sizes.clone_from(&theirs.sizes);
-            mine.frames.clone_from(&theirs.frames);
-            mine.state.clone_from(&theirs.state);
-        }
+        self.one.clone_from(&other.one);
+        self.two.clone_from(&other.two);
         self.apart = other.apart;
     }
 
     /// The memory of the second store.
-    pub fn memory(&self) -> &Memory {
+    pub fn memory(&self) -> &GuardedMemory {
         &self.two
     }
 
@@ -104,13 +100,15 @@ impl Pair {
         let Ran { word, look, .. } = two;
         let number = word >> 16;
         let refused = (2..=8).contains(&number);
+        let may = call.may_write();
+        let kept = |may: bool| refused || !may;
         // Media, sizes and state of the first store are as they came.
-        let kept = call.may_write().map(|may| refused || !may);
+        let (came, left) = (&self.one, &self.two);
         let altered = [
-            ("media", kept[0] && self.two.media != self.one.media),
-            ("stored sizes", kept[1] && self.two.sizes != self.one.sizes),
-            ("frames", kept[2] && self.two.frames != self.frames),
-            ("cache state", kept[3] && self.two.state != self.one.state),
+            ("media", kept(may.media) && left.media != came.media),
+            ("stored sizes", kept(may.sizes) && left.sizes != came.sizes),
+            ("frames", kept(may.frames) && left.frames != self.frames),
+            ("cache state", kept(may.state) && left.state != came.state),
             ("buffers of the call", refused && call_two != *call),
         ];
         if let Some((what, _)) = altered.iter().find(|(_, altered)| *altered) {
@@ -136,7 +134,7 @@ impl Pair {
         }
         let changes_frames = matches!(call, Call::Write { .. } | Call::Truncate { .. });
         self.apart |= changes_frames && number == 0;
-        if let Some(what) = self.different() {
+        if let Some(what) = self.one.difference(&self.two, self.apart) {
             return Err(format!("the {what} differ"));
         }
         let bytes = match call_two {
@@ -145,29 +143,6 @@ impl Pair {
             _ => Vec::new(),
         };
         Ok(Answered { word, bytes })
-    }
-
-    /// What of the memory differs, if something does.
-    fn different(&self) -> Option<String> {
-        let (one, two) = (&self.one, &self.two);
-        let what = if one.media != two.media {
-            "media"
-        } else if one.sizes != two.sizes {
-            "stored sizes"
-        } else if one.state != two.state {
-            "cache states"
-        } else if self.apart {
-            let slot = (0..SLOTS).find(|&slot| {
-                let bytes = slot * PAGE..(slot + 1) * PAGE;
-                one.state[1 + 3 * slot] == 1 && one.frames[bytes.clone()] != two.frames[bytes]
-            })?;
-            return Some(format!("frames of slot {slot}"));
-        } else if one.frames != two.frames {
-            "frames"
-        } else {
-            return None;
-        };
-        Some(what.to_owned())
     }
 
     /// The bytes that a look of the second store names. With zeros behind them,
@@ -189,19 +164,12 @@ impl Pair {
             return Err(format!("the look {look:x} is outside of its source"));
         };
         if word < 65_536 {
-            let Memory {
-                media,
-                sizes,
-                frames,
-                state,
-            } = &self.one;
-            let mut read = [0; PAGE];
+            let mut read = [0; PAGE_BYTES];
             let Some(read) = read.get_mut(..word as usize) else {
                 return Err(format!("the look counts {word} bytes"));
             };
-            A::read(media, sizes, frames, state, file, position, read);
-            let zeros = read.get(bytes.len()..);
-            if !read.starts_with(bytes) || zeros.is_none_or(|zeros| zeros.iter().any(|&b| b != 0)) {
+            A::read(self.one.lend(), file, position, read);
+            if !zeros_follow(bytes, read) {
                 return Err(format!(
                     "the look {look:x} does not give the bytes of a read"
                 ));
@@ -209,6 +177,12 @@ impl Pair {
         }
         Ok(bytes)
     }
+}
+
+/// Whether all bytes are these, with zeros behind them.
+pub fn zeros_follow(bytes: &[u8], all: &[u8]) -> bool {
+    let rest = all.strip_prefix(bytes);
+    rest.is_some_and(|rest| rest.iter().all(|&byte| byte == 0))
 }
 
 /// A look that is done and finds no byte may name any place; a refused one has
@@ -226,7 +200,7 @@ mod tests {
     /// As a call that writes one element before or past a slice leaves it.
     #[test]
     fn a_spoilt_guard_is_told() {
-        let spoil: [fn(&mut Memory, bool); 4] = [
+        let spoil: [fn(&mut GuardedMemory, bool); 4] = [
             |memory, past| memory.media.spoil(past, 0),
             |memory, past| memory.sizes.spoil(past, 0),
             |memory, past| memory.frames.spoil(past, 0),
@@ -235,12 +209,12 @@ mod tests {
         let call = |pair: &mut Pair| pair.call::<Reference, Reference>(&Call::Down);
         for spoil in spoil {
             for past in [false, true] {
-                let mut pair = Pair::new(&Memory::new());
+                let mut pair = Pair::new(&GuardedMemory::new());
                 call(&mut pair).unwrap();
                 spoil(&mut pair.two, past);
                 assert_eq!(call(&mut pair).unwrap_err(), BESIDE);
 
-                let mut pair = Pair::new(&Memory::new());
+                let mut pair = Pair::new(&GuardedMemory::new());
                 spoil(&mut pair.one, past);
                 let what = call(&mut pair).unwrap_err();
                 assert_eq!(what, format!("the first store: {BESIDE}"));

@@ -1,42 +1,49 @@
 //! The reference, with the cache state as bytes.
 
-use reference::store::{self, Answer, CacheState, FileSizes, Refusal, Slot, FILES, SLOTS};
+use layout::{
+    floor_at, logical_at, put_size, size, slot_at, FILES, MEDIA_BYTES, SLOTS, SLOT_BYTES,
+    STATE_BYTES, STATE_MOUNTED,
+};
+use reference::store::{self, Answer, CacheState, FileSizes, Refusal, Slot};
 
+use crate::memory::{MemoryMut, MemoryRef};
 use crate::store::Store;
 
 /// The reference as a [`Store`].
 pub struct Reference;
 
-/// Bytes of a cache state.
-pub const STATE_LEN: usize = 137;
-const LOGICAL: usize = 1 + 3 * SLOTS;
-const FLOOR: usize = LOGICAL + 4 * FILES;
+// The numbers that the reference has of its own are these.
+const _: () = assert!(
+    store::FILES == FILES
+        && store::FILE_MAX == layout::FILE_BYTES
+        && store::PAGE == layout::PAGE_BYTES
+        && store::SLOTS == SLOTS
+        && store::MEDIA_LEN == MEDIA_BYTES
+        && store::FRAMES_LEN == layout::FRAMES_BYTES
+);
 
-/// The state that these bytes tell; nothing where they are not 137, or a slot
-/// is neither used nor free.
+/// The state that these bytes tell; nothing where they have another length, or
+/// a slot is neither used nor free.
 pub fn decode(bytes: &[u8]) -> Option<CacheState> {
-    if bytes.len() != STATE_LEN {
+    if bytes.len() != STATE_BYTES {
         return None;
     }
-    let number = |at: usize| {
-        let bytes: [u8; 4] = bytes[at..at + 4].try_into().expect("four bytes");
-        u32::from_le_bytes(bytes) as usize
-    };
     let mut state = CacheState {
-        mounted: bytes[0],
+        mounted: bytes[STATE_MOUNTED],
         slots: [Slot::FREE; SLOTS],
-        logical: std::array::from_fn(|file| number(LOGICAL + 4 * file)),
-        floor: std::array::from_fn(|file| number(FLOOR + 4 * file)),
+        logical: std::array::from_fn(|file| size(bytes, logical_at(file))),
+        floor: std::array::from_fn(|file| size(bytes, floor_at(file))),
     };
-    for (slot, bytes) in state.slots.iter_mut().zip(bytes[1..].chunks(3)) {
+    for (index, slot) in state.slots.iter_mut().enumerate() {
+        let at = slot_at(index);
         *slot = Slot {
-            used: match bytes[0] {
+            used: match bytes[at] {
                 0 => false,
                 1 => true,
                 _ => return None,
             },
-            file: bytes[1].into(),
-            page: bytes[2].into(),
+            file: bytes[at + 1].into(),
+            page: bytes[at + 2].into(),
         };
     }
     Some(state)
@@ -44,16 +51,18 @@ pub fn decode(bytes: &[u8]) -> Option<CacheState> {
 
 /// The bytes of a state, as the calls leave it.
 pub fn encode(state: &CacheState, bytes: &mut [u8]) {
-    bytes[0] = state.mounted;
-    for (slot, bytes) in state.slots.iter().zip(bytes[1..].chunks_mut(3)) {
-        bytes.copy_from_slice(&[slot.used.into(), slot.file as u8, slot.page as u8]);
+    bytes[STATE_MOUNTED] = state.mounted;
+    for (index, slot) in state.slots.iter().enumerate() {
+        let at = slot_at(index);
+        bytes[at..at + SLOT_BYTES].copy_from_slice(&[
+            slot.used.into(),
+            slot.file as u8,
+            slot.page as u8,
+        ]);
     }
     for file in 0..FILES {
-        let mut put = |at: usize, size: usize| {
-            bytes[at..at + 4].copy_from_slice(&(size as u32).to_le_bytes());
-        };
-        put(LOGICAL + 4 * file, state.logical[file]);
-        put(FLOOR + 4 * file, state.floor[file]);
+        put_size(bytes, logical_at(file), state.logical[file]);
+        put_size(bytes, floor_at(file), state.floor[file]);
     }
 }
 
@@ -72,7 +81,7 @@ const UNSOUND: CacheState = CacheState {
 /// Carries out a call on the state in these bytes, which change only where the
 /// call changes the state.
 fn with_state(bytes: &mut [u8], call: impl FnOnce(&mut CacheState) -> Answer) -> u32 {
-    if bytes.len() != STATE_LEN {
+    if bytes.len() != STATE_BYTES {
         return SHAPE;
     }
     let before = decode(bytes).unwrap_or(UNSOUND);
@@ -86,7 +95,7 @@ fn with_state(bytes: &mut [u8], call: impl FnOnce(&mut CacheState) -> Answer) ->
 
 /// As [`with_state`], for calls that only read the state.
 fn beside_state(bytes: &[u8], call: impl FnOnce(&CacheState) -> Answer) -> u32 {
-    if bytes.len() != STATE_LEN {
+    if bytes.len() != STATE_BYTES {
         return SHAPE;
     }
     word(call(&decode(bytes).unwrap_or(UNSOUND)))
@@ -98,110 +107,70 @@ fn media_write(result: Result<(), Refusal>) -> u32 {
 
 impl Store for Reference {
     fn down(state: &mut [u8]) -> u32 {
-        if state.len() != STATE_LEN {
+        if state.len() != STATE_BYTES {
             return SHAPE;
         }
         encode(&CacheState::DOWN, state);
         0
     }
 
-    fn format(media: &mut [u8], sizes: &mut [u32], state: &mut [u8], budget: usize) -> u32 {
-        with_state(state, |state| store::format(media, sizes, state, budget))
-    }
-
-    fn mount(media: &mut [u8], sizes: &mut [u32], state: &mut [u8], budget: usize) -> u32 {
-        with_state(state, |state| store::mount(media, sizes, state, budget))
-    }
-
-    fn read(
-        media: &[u8],
-        sizes: &[u32],
-        frames: &[u8],
-        state: &[u8],
-        file: usize,
-        position: usize,
-        buffer: &mut [u8],
-    ) -> u32 {
-        beside_state(state, |state| {
-            store::read(media, sizes, frames, state, file, position, buffer)
+    fn format(m: MemoryMut<'_>, budget: usize) -> u32 {
+        with_state(m.state, |state| {
+            store::format(m.media, m.sizes, state, budget)
         })
     }
 
-    fn write(
-        media: &[u8],
-        sizes: &[u32],
-        frames: &mut [u8],
-        state: &mut [u8],
-        file: usize,
-        position: usize,
-        bytes: &[u8],
-    ) -> u32 {
-        with_state(state, |state| {
-            store::write(media, sizes, frames, state, file, position, bytes)
+    fn mount(m: MemoryMut<'_>, budget: usize) -> u32 {
+        with_state(m.state, |state| {
+            store::mount(m.media, m.sizes, state, budget)
         })
     }
 
-    fn truncate(
-        media: &[u8],
-        sizes: &[u32],
-        frames: &mut [u8],
-        state: &mut [u8],
-        file: usize,
-        n: usize,
-    ) -> u32 {
-        with_state(state, |state| {
-            store::truncate(media, sizes, frames, state, file, n)
+    fn read(m: MemoryRef<'_>, file: usize, position: usize, buffer: &mut [u8]) -> u32 {
+        beside_state(m.state, |state| {
+            store::read(m.media, m.sizes, m.frames, state, file, position, buffer)
         })
     }
 
-    fn sync(
-        media: &mut [u8],
-        sizes: &mut [u32],
-        frames: &[u8],
-        state: &mut [u8],
-        file: usize,
-        budget: usize,
-    ) -> u32 {
-        with_state(state, |state| {
-            store::sync(media, sizes, frames, state, file, budget)
+    fn write(m: MemoryMut<'_>, file: usize, position: usize, bytes: &[u8]) -> u32 {
+        with_state(m.state, |state| {
+            store::write(m.media, m.sizes, m.frames, state, file, position, bytes)
         })
     }
 
-    fn look_count(
-        media: &[u8],
-        sizes: &[u32],
-        frames: &[u8],
-        state: &[u8],
-        file: usize,
-        position: usize,
-    ) -> u32 {
-        beside_state(state, |state| {
-            store::look_count(media, sizes, frames, state, file, position)
+    fn truncate(m: MemoryMut<'_>, file: usize, n: usize) -> u32 {
+        with_state(m.state, |state| {
+            store::truncate(m.media, m.sizes, m.frames, state, file, n)
         })
     }
 
-    fn look(
-        media: &[u8],
-        sizes: &[u32],
-        frames: &[u8],
-        state: &[u8],
-        file: usize,
-        position: usize,
-    ) -> u64 {
-        if state.len() != STATE_LEN {
+    fn sync(m: MemoryMut<'_>, file: usize, budget: usize) -> u32 {
+        with_state(m.state, |state| {
+            store::sync(m.media, m.sizes, m.frames, state, file, budget)
+        })
+    }
+
+    fn look_count(m: MemoryRef<'_>, file: usize, position: usize) -> u32 {
+        beside_state(m.state, |state| {
+            store::look_count(m.media, m.sizes, m.frames, state, file, position)
+        })
+    }
+
+    fn look(m: MemoryRef<'_>, file: usize, position: usize) -> u64 {
+        if m.state.len() != STATE_BYTES {
             return 0;
         }
-        let state = decode(state).unwrap_or(UNSOUND);
-        let part = store::look(media, sizes, frames, &state, file, position);
+        let state = decode(m.state).unwrap_or(UNSOUND);
+        let part = store::look(m.media, m.sizes, m.frames, &state, file, position);
         if part.is_empty() {
             return 0;
         }
         // The part lies in one of the two slices; its address tells which.
         let at = part.as_ptr() as usize;
-        let (source, start) = if frames.as_ptr_range().contains(&part.as_ptr()) {
-            (1, frames.as_ptr() as usize)
+        let (source, start) = if m.frames.as_ptr_range().contains(&part.as_ptr()) {
+            (1, m.frames.as_ptr() as usize)
         } else {
-            (0, media.as_ptr() as usize)
+            (0, m.media.as_ptr() as usize)
         };
         ((at - start) as u64) << 32 | source << 16 | part.len() as u64
     }
@@ -228,14 +197,14 @@ impl Store for Reference {
         media_write(store::store_page(page, bytes))
     }
 
-    fn write_size(media: &[u8], sizes: &mut [u32], file: usize, n: usize) -> u32 {
-        if media.len() != store::MEDIA_LEN {
+    fn write_size(m: MemoryMut<'_>, file: usize, n: usize) -> u32 {
+        if m.media.len() != MEDIA_BYTES {
             return SHAPE;
         }
-        media_write(store::store_size(sizes, file, n))
+        media_write(store::store_size(m.sizes, file, n))
     }
 
-    fn trim(media: &mut [u8], sizes: &mut [u32], file: usize, n: usize) -> u32 {
-        media_write(store::trim(media, sizes, file, n))
+    fn trim(m: MemoryMut<'_>, file: usize, n: usize) -> u32 {
+        media_write(store::trim(m.media, m.sizes, file, n))
     }
 }

@@ -1,21 +1,21 @@
 //! Makes a call that shows a difference simpler, and the memory it is made on.
 
 use crate::call::Call;
-use crate::memory::Memory;
+use crate::random_memory::GuardedMemory;
 
 /// Most tries.
 const TRIES: usize = 5_000;
 
 /// Simplifies as long as `fails` holds of what is simpler.
 pub fn shrink(
-    mut memory: Memory,
+    mut memory: GuardedMemory,
     mut call: Call,
-    fails: impl Fn(&Memory, &Call) -> bool,
-) -> (Memory, Call) {
+    fails: impl Fn(&GuardedMemory, &Call) -> bool,
+) -> (GuardedMemory, Call) {
     let mut tries = 0;
     loop {
         let mut found = false;
-        for change in 0..Memory::SIMPLER {
+        for change in 0..GuardedMemory::SIMPLER {
             let Some(simpler) = memory.simpler(change) else {
                 continue;
             };
@@ -46,12 +46,13 @@ pub fn shrink(
 #[cfg(test)]
 mod tests {
     use super::*;
+    use layout::STATE_MOUNTED;
     use random_sessions::rng::Rng;
 
     #[test]
     fn keeps_what_the_failure_needs() {
         let mut rng = Rng::new(5);
-        let memory = std::iter::repeat_with(|| Memory::random(&mut rng))
+        let memory = std::iter::repeat_with(|| GuardedMemory::random(&mut rng))
             .find(|memory| memory.has_right_lengths() && memory.is_sound() && memory.sizes[3] > 7)
             .unwrap();
         let call = Call::Write {
@@ -61,12 +62,12 @@ mod tests {
         };
         let (memory, call) = shrink(memory, call, |memory, call| {
             memory.sizes[3] > 7
-                && memory.state[0] == 1
+                && memory.state[STATE_MOUNTED] == 1
                 && matches!(call, Call::Write { position, bytes, .. } if *position >= 300 && bytes.len() > 2)
         });
-        let mut small = Memory::new();
+        let mut small = GuardedMemory::new();
         small.sizes[3] = memory.sizes[3];
-        small.state[0] = 1;
+        small.state[STATE_MOUNTED] = 1;
         assert_eq!(memory, small);
         assert_eq!(
             call,

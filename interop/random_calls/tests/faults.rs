@@ -1,50 +1,49 @@
 //! The comparison finds a store with a fault.
 
-use random_calls::{compare, Call, Memory, Reference, Store};
+use layout::{
+    FILES, FILE_BYTES, FRAMES_BYTES, MEDIA_BYTES, PAGE_BYTES, STATE_BYTES, STATE_LOGICAL,
+    STATE_MOUNTED,
+};
+use random_calls::{compare, Call, GuardedMemory, MemoryMut, MemoryRef, Reference, Store};
 
 /// The reference, with one fault.
 struct Faulty<const FAULT: usize>;
 
-const FAULTS: usize = 21;
+const FAULTS: usize = 27;
 
 impl<const FAULT: usize> Store for Faulty<FAULT> {
     fn down(state: &mut [u8]) -> u32 {
         let answer = Reference::down(state);
         if FAULT == 1 && answer == 0 {
-            state[136] = 1;
+            state[STATE_BYTES - 1] = 1;
         }
         answer
     }
 
-    fn format(media: &mut [u8], sizes: &mut [u32], state: &mut [u8], budget: usize) -> u32 {
-        let answer = Reference::format(media, sizes, state, budget);
+    fn format(m: MemoryMut<'_>, budget: usize) -> u32 {
+        let answer = Reference::format(m, budget);
         if FAULT == 2 && answer >> 16 == 9 {
             return 9 << 16;
         }
         answer
     }
 
-    fn mount(media: &mut [u8], sizes: &mut [u32], state: &mut [u8], budget: usize) -> u32 {
-        if FAULT == 3 && media.len() == 32_768 {
-            let byte = media[32_767];
-            let answer = Reference::mount(media, sizes, state, budget);
-            media[32_767] = byte;
-            return answer;
+    fn mount(mut m: MemoryMut<'_>, budget: usize) -> u32 {
+        let last = m.media.get(MEDIA_BYTES - 1).copied();
+        let answer = Reference::mount(m.lend_mut(), budget);
+        if let (3, Some(last)) = (FAULT, last) {
+            m.media[MEDIA_BYTES - 1] = last;
         }
-        Reference::mount(media, sizes, state, budget)
+        // what a mount may not write
+        if FAULT == 22 && answer == 0 && !m.frames.is_empty() {
+            m.frames[0] ^= 1;
+        }
+        answer
     }
 
-    fn read(
-        media: &[u8],
-        sizes: &[u32],
-        frames: &[u8],
-        state: &[u8],
-        file: usize,
-        position: usize,
-        buffer: &mut [u8],
-    ) -> u32 {
+    fn read(m: MemoryRef<'_>, file: usize, position: usize, buffer: &mut [u8]) -> u32 {
         // MEDIA before SHAPE
-        if FAULT == 13 && sizes.iter().any(|&size| size > 4_096) {
+        if FAULT == 13 && m.sizes.iter().any(|&size| size as usize > FILE_BYTES) {
             return 3 << 16;
         }
         let position = if FAULT == 14 {
@@ -52,7 +51,7 @@ impl<const FAULT: usize> Store for Faulty<FAULT> {
         } else {
             position
         };
-        let answer = Reference::read(media, sizes, frames, state, file, position, buffer);
+        let answer = Reference::read(m, file, position, buffer);
         if FAULT == 15 && answer >> 16 == 7 {
             buffer.fill(0);
         }
@@ -62,92 +61,75 @@ impl<const FAULT: usize> Store for Faulty<FAULT> {
         answer
     }
 
-    fn write(
-        media: &[u8],
-        sizes: &[u32],
-        frames: &mut [u8],
-        state: &mut [u8],
-        file: usize,
-        position: usize,
-        bytes: &[u8],
-    ) -> u32 {
-        let before = state.to_vec();
-        let answer = Reference::write(media, sizes, frames, state, file, position, bytes);
+    fn write(mut m: MemoryMut<'_>, file: usize, position: usize, bytes: &[u8]) -> u32 {
+        let before = m.state.to_vec();
+        let answer = Reference::write(m.lend_mut(), file, position, bytes);
         if FAULT == 5 && answer >> 16 == 0 {
-            state[73..].copy_from_slice(&before[73..]);
+            m.state[STATE_LOGICAL..].copy_from_slice(&before[STATE_LOGICAL..]);
         }
         if FAULT == 6 && answer >> 16 == 8 {
-            frames[0] ^= 1;
+            m.frames[0] ^= 1;
+        }
+        // what a write may not write
+        if FAULT == 23 && answer >> 16 == 0 {
+            m.media[MEDIA_BYTES - 1] ^= 1;
         }
         answer
     }
 
-    fn truncate(
-        media: &[u8],
-        sizes: &[u32],
-        frames: &mut [u8],
-        state: &mut [u8],
-        file: usize,
-        n: usize,
-    ) -> u32 {
-        let before = frames.to_vec();
+    fn truncate(mut m: MemoryMut<'_>, file: usize, n: usize) -> u32 {
+        let before = m.frames.to_vec();
+        let sizes = m.sizes.to_vec();
         // BOOKS before MEDIA
-        if FAULT == 16 && sizes.len() == 8 && frames.len() == 6_144 && state.first() == Some(&2) {
-            return Reference::truncate(media, &[0; 8], frames, state, file, n);
+        if FAULT == 16
+            && sizes.len() == FILES
+            && m.frames.len() == FRAMES_BYTES
+            && m.state.get(STATE_MOUNTED) == Some(&2)
+        {
+            m.sizes.fill(0);
+            let answer = Reference::truncate(m.lend_mut(), file, n);
+            m.sizes.copy_from_slice(&sizes);
+            return answer;
         }
-        let answer = Reference::truncate(media, sizes, frames, state, file, n);
+        let answer = Reference::truncate(m.lend_mut(), file, n);
         if FAULT == 7 {
-            frames.copy_from_slice(&before);
+            m.frames.copy_from_slice(&before);
+        }
+        // what a truncate may not write
+        if FAULT == 24 && answer == 0 {
+            m.sizes[file] = FILE_BYTES as u32;
         }
         answer
     }
 
-    fn sync(
-        media: &mut [u8],
-        sizes: &mut [u32],
-        frames: &[u8],
-        state: &mut [u8],
-        file: usize,
-        budget: usize,
-    ) -> u32 {
-        let before = sizes.to_vec();
-        let answer = Reference::sync(media, sizes, frames, state, file, budget);
+    fn sync(mut m: MemoryMut<'_>, file: usize, budget: usize) -> u32 {
+        let before = m.sizes.to_vec();
+        let answer = Reference::sync(m.lend_mut(), file, budget);
         if FAULT == 8 {
-            sizes.copy_from_slice(&before);
+            m.sizes.copy_from_slice(&before);
+        }
+        // what a sync may not write
+        if FAULT == 25 && answer >> 16 == 0 {
+            m.frames[FRAMES_BYTES - 1] ^= 1;
         }
         answer
     }
 
-    fn look_count(
-        media: &[u8],
-        sizes: &[u32],
-        frames: &[u8],
-        state: &[u8],
-        file: usize,
-        position: usize,
-    ) -> u32 {
-        let answer = Reference::look_count(media, sizes, frames, state, file, position);
+    fn look_count(m: MemoryRef<'_>, file: usize, position: usize) -> u32 {
+        let answer = Reference::look_count(m, file, position);
         // to the end of the page, past the logical size
-        if FAULT == 19 && (1..256).contains(&answer) {
-            return 256 - (position % 256) as u32;
+        if FAULT == 19 && (1..PAGE_BYTES as u32).contains(&answer) {
+            return (PAGE_BYTES - position % PAGE_BYTES) as u32;
         }
         answer
     }
 
-    fn look(
-        media: &[u8],
-        sizes: &[u32],
-        frames: &[u8],
-        state: &[u8],
-        file: usize,
-        position: usize,
-    ) -> u64 {
-        let look = Reference::look(media, sizes, frames, state, file, position);
-        let answer = Self::look_count(media, sizes, frames, state, file, position);
-        let look_is_done = answer >> 16 == 0;
+    fn look(m: MemoryRef<'_>, file: usize, position: usize) -> u64 {
+        let look = Reference::look(m, file, position);
+        let look_is_done = Self::look_count(m, file, position) >> 16 == 0;
         match FAULT {
             // a place that the media has not
-            17 if look & 65_535 == 0 && look_is_done => 40_000 << 32,
+            17 if look & 65_535 == 0 && look_is_done => (MEDIA_BYTES as u64 + 1) << 32,
             18 if look_is_done => look | 2 << 16,
             9 if look != 0 => look ^ 1 << 16,
             10 if !look_is_done => 1 << 32,
@@ -169,19 +151,27 @@ impl<const FAULT: usize> Store for Faulty<FAULT> {
         Reference::write_page(page, bytes)
     }
 
-    fn write_size(media: &[u8], sizes: &mut [u32], file: usize, n: usize) -> u32 {
-        if FAULT == 20 {
-            return Reference::write_size(media, sizes, file, n as u32 as usize);
+    fn write_size(mut m: MemoryMut<'_>, file: usize, n: usize) -> u32 {
+        let n = if FAULT == 20 { n as u32 as usize } else { n };
+        let answer = Reference::write_size(m.lend_mut(), file, n);
+        // what a media write of a size may not write
+        if FAULT == 26 && answer == 0 {
+            m.media[0] ^= 1;
         }
-        Reference::write_size(media, sizes, file, n)
+        answer
     }
 
-    fn trim(media: &mut [u8], sizes: &mut [u32], file: usize, n: usize) -> u32 {
-        let before = media.to_vec();
-        let answer = Reference::trim(media, sizes, file, n);
+    fn trim(mut m: MemoryMut<'_>, file: usize, n: usize) -> u32 {
+        let before = m.media.to_vec();
+        let answer = Reference::trim(m.lend_mut(), file, n);
         // the last byte stays
-        if FAULT == 21 && answer == 0 && n < 4_096 {
-            media[4_096 * file + 4_095] = before[4_096 * file + 4_095];
+        if FAULT == 21 && answer == 0 && n < FILE_BYTES {
+            let last = FILE_BYTES * (file + 1) - 1;
+            m.media[last] = before[last];
+        }
+        // what a trim may not write
+        if FAULT == 27 && answer == 0 && !m.state.is_empty() {
+            m.state[0] ^= 1;
         }
         answer
     }
@@ -229,13 +219,19 @@ fn every_fault_is_found() {
         compare::<Reference, Faulty<19>>,
         compare::<Reference, Faulty<20>>,
         compare::<Reference, Faulty<21>>,
+        compare::<Reference, Faulty<22>>,
+        compare::<Reference, Faulty<23>>,
+        compare::<Reference, Faulty<24>>,
+        compare::<Reference, Faulty<25>>,
+        compare::<Reference, Faulty<26>>,
+        compare::<Reference, Faulty<27>>,
     ]
     .map(|compare| compare(1, 30_000).is_err());
     assert_eq!(found, [true; FAULTS]);
 }
 
-/// What a refusal has to leave and what a look may name, without another store
-/// that is right.
+/// What a refusal has to leave, what a look may name and what a call may write,
+/// without another store that is right.
 #[test]
 fn some_faults_are_found_beside_themselves() {
     let found = [
@@ -243,17 +239,23 @@ fn some_faults_are_found_beside_themselves() {
         compare::<Faulty<15>, Faulty<15>>,
         compare::<Faulty<17>, Faulty<17>>,
         compare::<Faulty<18>, Faulty<18>>,
+        compare::<Faulty<22>, Faulty<22>>,
+        compare::<Faulty<23>, Faulty<23>>,
+        compare::<Faulty<24>, Faulty<24>>,
+        compare::<Faulty<25>, Faulty<25>>,
+        compare::<Faulty<26>, Faulty<26>>,
+        compare::<Faulty<27>, Faulty<27>>,
     ]
     .map(|compare| compare(1, 30_000).is_err());
-    assert_eq!(found, [true; 4]);
+    assert_eq!(found, [true; 10]);
 }
 
 #[test]
 fn a_difference_is_told_in_its_simplest_form() {
     let difference = compare::<Reference, Faulty<4>>(1, 30_000).unwrap_err();
     // one byte too many in the buffer, on a store that is up
-    let mut memory = Memory::new();
-    memory.state[0] = 1;
+    let mut memory = GuardedMemory::new();
+    memory.state[STATE_MOUNTED] = 1;
     assert_eq!(difference.memory, memory);
     let Call::Read {
         position: 0,

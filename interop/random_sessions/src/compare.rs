@@ -224,8 +224,8 @@ fn printf_escaped(bytes: &[u8]) -> String {
 #[cfg(test)]
 mod tests {
     use super::*;
+    use layout::{FILE_BYTES, PAGE_BYTES};
     use reference::session::Command;
-    use reference::store::PAGE;
 
     /// A wrong program: the reference behind a filter of its lines.
     fn filtered(filter: impl Fn(&[u8]) -> Option<Vec<u8>>) -> impl FnMut(&[u8]) -> Vec<u8> {
@@ -295,7 +295,7 @@ mod tests {
             filtered(|line| match Command::parse(line)? {
                 Command::Truncate {
                     file,
-                    size: ..=4096,
+                    size: ..=FILE_BYTES,
                 } => Some(format!("R,{file},0,0").into_bytes()),
                 _ => None,
             }),
@@ -377,7 +377,10 @@ mod tests {
                     position,
                     length,
                     byte,
-                } if position > 0 && position % PAGE == 0 && position + length < 4096 => {
+                } if position > 0
+                    && position % PAGE_BYTES == 0
+                    && position + length < FILE_BYTES =>
+                {
                     Some(format!("W,{file},{},{length},{byte}", position + 1).into_bytes())
                 }
                 _ => None,

@@ -1,9 +1,10 @@
 //! The generator of sessions: mostly valid lines that lead a store into deep
 //! states, and malformed lines of every kind.
 
+use layout::{FILES, FILE_BYTES, PAGES, PAGE_BYTES};
 use reference::device::Device;
 use reference::session::{Command, READ_MAX};
-use reference::store::{CacheState, FILES, FILE_MAX, PAGE};
+use reference::store::CacheState;
 
 use crate::program::Feed;
 use crate::rng::Rng;
@@ -257,22 +258,22 @@ impl Generator {
         let stored = self.device.sizes.get(file).map_or(0, |&size| size as usize);
         match self.rng.weighted(&[25, 18, 8, 8, 6, 18, 8, 6, 2, 1]) {
             0 => {
-                let page = self.rng.below(FILE_MAX / PAGE + 1);
-                self.near(PAGE * page)
+                let page = self.rng.below(PAGES + 1);
+                self.near(PAGE_BYTES * page)
             }
             1 => self.near(logical),
             2 => self.near(floor),
             3 => self.near(stored),
-            4 => self.near(FILE_MAX),
+            4 => self.near(FILE_BYTES),
             5 => {
                 let (recent_file, position) = self.recent[self.rng.below(self.recent.len())];
                 if recent_file == file {
                     self.near(position)
                 } else {
-                    self.rng.below(PAGE)
+                    self.rng.below(PAGE_BYTES)
                 }
             }
-            6 => self.rng.between(0, FILE_MAX),
+            6 => self.rng.between(0, FILE_BYTES),
             7 => 0,
             8 => self.rng.pick(&[4096, 4097, 4098, 4351, 4352, 8192]),
             _ => self.rng.pick(&[9999, 32_767, 32_768, 65_280, 65_535]),
@@ -287,29 +288,29 @@ impl Generator {
             0 => 0,
             1 => 1,
             2 => self.rng.between(2, 40),
-            3 => self.near(PAGE),
+            3 => self.near(PAGE_BYTES),
             4 => {
                 // The end is aimed at, not the length.
                 let end = self.position(file);
                 end.saturating_sub(position)
             }
-            5 => self.rng.between(0, FILE_MAX),
-            _ => FILE_MAX.saturating_sub(position),
+            5 => self.rng.between(0, FILE_BYTES),
+            _ => FILE_BYTES.saturating_sub(position),
         };
         match self.mode {
             Mode::Rewrite if self.rng.chance(15) => {
-                (position, length) = (0, FILE_MAX);
+                (position, length) = (0, FILE_BYTES);
             }
             Mode::Fill if self.rng.chance(25) => {
-                position = PAGE * self.rng.below(FILE_MAX / PAGE);
-                length = self.rng.between(1, 6) * PAGE;
+                position = PAGE_BYTES * self.rng.below(PAGES);
+                length = self.rng.between(1, 6) * PAGE_BYTES;
             }
             Mode::Probe => length = length.min(600),
             _ => {}
         }
-        length = length.min(FILE_MAX);
-        if position + length > FILE_MAX && self.rng.chance(92) {
-            length = FILE_MAX.saturating_sub(position);
+        length = length.min(FILE_BYTES);
+        if position + length > FILE_BYTES && self.rng.chance(92) {
+            length = FILE_BYTES.saturating_sub(position);
         }
         self.byte = self.byte.wrapping_add(1);
         let byte = match self.rng.below(20) {
@@ -747,6 +748,7 @@ fn pad(line: &mut Vec<u8>, length: usize, rng: &mut Rng) {
 mod tests {
     use super::*;
     use crate::tally::Tally;
+    use layout::SYNC_WRITES;
     use reference::session::{run_bytes, LINE_MAX};
 
     fn many(seed: u64, sessions: u64) -> Vec<Session> {
@@ -816,10 +818,10 @@ mod tests {
                 assert_eq!(tally.answers[number], 0, "answer {number}\n{tally}");
             }
             assert!(tally.short_writes > 200, "{tally}");
-            for stores in 0..=18 {
+            for stores in 0..=SYNC_WRITES {
                 assert!(tally.done_syncs[stores] > 0, "done {stores}\n{tally}");
             }
-            for stores in 0..=17 {
+            for stores in 0..SYNC_WRITES {
                 assert!(tally.cut_syncs[stores] > 0, "cut {stores}\n{tally}");
             }
             assert!(tally.done_mounts[0] > 500, "{tally}");

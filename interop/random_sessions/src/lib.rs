@@ -1,6 +1,7 @@
 //! Random sessions for a session program, and their comparison with the
 //! reference.
 
+pub mod command_line;
 pub mod compare;
 pub mod generate;
 pub mod program;

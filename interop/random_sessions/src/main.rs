@@ -3,12 +3,12 @@
 use std::io::{self, BufWriter, Write};
 use std::path::Path;
 use std::process::ExitCode;
-use std::time::{Duration, Instant};
+use std::time::Duration;
 
+use random_sessions::command_line::{self, compare_on, number, Options, Seeds};
 use random_sessions::compare::compare_seed;
 use random_sessions::generate::Generator;
 use random_sessions::program::Executable;
-use random_sessions::rng::fresh_seed;
 use random_sessions::tally::Tally;
 
 const HELP: &str = "\
@@ -45,8 +45,7 @@ enum Task {
     Compare {
         program: String,
         lines: usize,
-        seeds: Vec<u64>,
-        fresh: bool,
+        seeds: Seeds,
         timeout: Duration,
     },
     Print {
@@ -56,66 +55,36 @@ enum Task {
 }
 
 fn parse(arguments: &[String]) -> Result<Task, String> {
-    let Some((command, rest)) = arguments.split_first() else {
+    let Some((command, rest)) = command_line::command(arguments) else {
         return Ok(Task::Help);
     };
-    if arguments
-        .iter()
-        .any(|argument| argument == "--help" || argument == "-h")
-    {
-        return Ok(Task::Help);
-    }
-    if command != "compare" && command != "print" {
-        return Err(format!("unknown command '{command}'"));
-    }
-    let compare = command == "compare";
+    let compare = match command {
+        "compare" => true,
+        "print" => false,
+        _ => return Err(format!("unknown command '{command}'")),
+    };
     let mut program = None;
-    let mut lines = None;
-    let mut seeds = Vec::new();
-    let mut fresh = false;
     let mut timeout = 30;
-    let mut rest = rest.iter();
-    while let Some(argument) = rest.next() {
-        let mut number = || -> Result<u64, String> {
-            let value = rest
-                .next()
-                .ok_or_else(|| format!("{argument} needs a number"))?;
-            value
-                .parse()
-                .map_err(|_| format!("{argument}: '{value}' is not a number"))
-        };
-        match argument.as_str() {
-            "--lines" if lines.is_none() => {
-                let value = number()?;
-                lines = Some(usize::try_from(value).map_err(|error| error.to_string())?);
-            }
-            "--lines" => return Err("--lines is given twice".to_owned()),
-            "--seed" => seeds.push(number()?),
-            "--fresh" if compare => fresh = true,
-            "--timeout" if compare => timeout = number()?,
-            _ if argument.starts_with('-') => return Err(format!("unknown option '{argument}'")),
-            _ if compare && program.is_none() => program = Some(argument.clone()),
-            _ => return Err(format!("unexpected argument '{argument}'")),
+    let options = Options::read(rest, "--lines", compare, |argument, rest| {
+        match argument {
+            "--timeout" if compare => timeout = number(argument, rest)?,
+            _ if argument.starts_with('-') => return Ok(false),
+            _ if compare && program.is_none() => program = Some(argument.to_owned()),
+            _ => return Ok(false),
         }
+        Ok(true)
+    })?;
+    let lines = options.amount()?;
+    if !compare {
+        let seed = options.one_seed()?;
+        return Ok(Task::Print { seed, lines });
     }
-    let lines = lines.ok_or("--lines is missing")?;
-    if compare {
-        if seeds.is_empty() && !fresh {
-            return Err("--seed or --fresh is missing".to_owned());
-        }
-        Ok(Task::Compare {
-            program: program.ok_or("PROGRAM is missing")?,
-            lines,
-            seeds,
-            fresh,
-            timeout: Duration::from_secs(timeout),
-        })
-    } else {
-        match seeds[..] {
-            [seed] => Ok(Task::Print { seed, lines }),
-            _ => Err("one --seed is needed".to_owned()),
-        }
-    }
+    Ok(Task::Compare {
+        seeds: options.seeds()?,
+        program: program.ok_or("PROGRAM is missing")?,
+        lines,
+        timeout: Duration::from_secs(timeout),
+    })
 }
 
 /// Compares on all seeds; true if there is no difference.
@@ -128,34 +97,17 @@ fn compare(
 ) -> io::Result<bool> {
     let mut executable = Executable::new(program, timeout);
     let mut tally = Tally::default();
-    let start = Instant::now();
-    let each = lines.div_ceil(seeds.len());
-    for &seed in seeds {
-        let seed_start = Instant::now();
-        let (lines_before, sessions_before) = (tally.lines, tally.sessions);
-        let result = compare_seed(&mut executable, seed, each, &mut tally);
-        let seconds = seed_start.elapsed().as_secs_f64();
-        match result {
-            Ok(()) => writeln!(
-                out,
-                "seed {seed}: {} lines in {} sessions, {seconds:.2} s, equal",
-                tally.lines - lines_before,
-                tally.sessions - sessions_before
-            )?,
-            Err(difference) => {
-                write!(out, "{}", difference.report(program))?;
-                return Ok(false);
-            }
-        }
-    }
-    let seconds = start.elapsed().as_secs_f64();
-    writeln!(
-        out,
-        "total: {} lines in {} sessions, {} seeds, {seconds:.2} s, all equal",
-        tally.lines,
-        tally.sessions,
-        seeds.len()
-    )?;
+    let counts = |lines: usize, sessions: usize| format!("{lines} lines in {sessions} sessions");
+    let end = compare_on(seeds, lines, out, |seed, lines| {
+        let before = (tally.lines, tally.sessions);
+        compare_seed(&mut executable, seed, lines, &mut tally)
+            .map_err(|difference| difference.report(program))?;
+        Ok(counts(tally.lines - before.0, tally.sessions - before.1))
+    })?;
+    let Some(end) = end else {
+        return Ok(false);
+    };
+    writeln!(out, "total: {}, {end}", counts(tally.lines, tally.sessions))?;
     writeln!(out, "{tally}")?;
     Ok(true)
 }
@@ -174,7 +126,7 @@ fn print(seed: u64, lines: usize, out: impl Write) -> io::Result<()> {
     out.flush()
 }
 
-fn run(task: Task) -> io::Result<bool> {
+fn perform(task: Task) -> io::Result<bool> {
     let mut out = io::stdout();
     match task {
         Task::Help => out.write_all(HELP.as_bytes()).map(|()| true),
@@ -182,15 +134,10 @@ fn run(task: Task) -> io::Result<bool> {
         Task::Compare {
             program,
             lines,
-            mut seeds,
-            fresh,
+            seeds,
             timeout,
         } => {
-            if fresh {
-                let seed = fresh_seed();
-                writeln!(out, "fresh seed: {seed}")?;
-                seeds.push(seed);
-            }
+            let seeds = seeds.all(&mut out)?;
             if program.contains('/') && !Path::new(&program).is_file() {
                 writeln!(out, "{program}: there is no such program")?;
                 return Ok(false);
@@ -201,32 +148,7 @@ fn run(task: Task) -> io::Result<bool> {
 }
 
 fn main() -> ExitCode {
-    let arguments: Result<Vec<String>, _> = std::env::args_os()
-        .skip(1)
-        .map(|argument| argument.into_string())
-        .collect();
-    let task = arguments
-        .map_err(|argument| format!("{argument:?} is not valid Unicode"))
-        .and_then(|arguments| parse(&arguments));
-    let task = match task {
-        Ok(task) => task,
-        Err(message) => {
-            // Nothing is left to do if standard error fails as well.
-            let _ = writeln!(
-                io::stderr(),
-                "random_sessions: {message}\nTry 'random_sessions --help'."
-            );
-            return ExitCode::from(2);
-        }
-    };
-    match run(task) {
-        Ok(true) => ExitCode::SUCCESS,
-        Ok(false) => ExitCode::from(1),
-        Err(error) => {
-            let _ = writeln!(io::stderr(), "random_sessions: {error}");
-            ExitCode::from(1)
-        }
-    }
+    command_line::main("random_sessions", parse, perform)
 }
 
 #[cfg(test)]
@@ -248,8 +170,10 @@ mod tests {
             Ok(Task::Compare {
                 program: "p".to_owned(),
                 lines: 10,
-                seeds: vec![1, 2],
-                fresh: true,
+                seeds: Seeds {
+                    given: vec![1, 2],
+                    fresh: true,
+                },
                 timeout: Duration::from_secs(30),
             })
         );

@@ -2,6 +2,7 @@
 
 use std::fmt;
 
+use layout::{MOUNT_WRITES, SYNC_WRITES};
 use reference::session::Command;
 
 /// How often each answer and some deeper events came.
@@ -18,17 +19,17 @@ pub struct Tally {
     /// Reads that gave at least one byte.
     pub reads_with_bytes: usize,
     /// Syncs done, by media writes made.
-    pub done_syncs: [usize; 19],
+    pub done_syncs: [usize; SYNC_WRITES + 1],
     /// Syncs cut, by media writes made.
-    pub cut_syncs: [usize; 19],
+    pub cut_syncs: [usize; SYNC_WRITES + 1],
     /// Mounts done, by media writes made.
-    pub done_mounts: [usize; 9],
+    pub done_mounts: [usize; MOUNT_WRITES + 1],
     /// Mounts cut, by media writes made.
-    pub cut_mounts: [usize; 9],
+    pub cut_mounts: [usize; MOUNT_WRITES + 1],
     /// Formats done, by media writes made.
-    pub done_formats: [usize; 9],
+    pub done_formats: [usize; MOUNT_WRITES + 1],
     /// Formats cut, by media writes made.
-    pub cut_formats: [usize; 9],
+    pub cut_formats: [usize; MOUNT_WRITES + 1],
 }
 
 impl Tally {

@@ -2,25 +2,20 @@
 //! benchmark. The calls have the signatures of `boxstore::raw`, and the same
 //! result on every input, but for where an empty look lies.
 //!
-//! The cache state is worked on in place, in its 137 bytes. Nothing is
-//! allocated, and a byte is moved only where the call's result needs it moved.
-//! No call is inlined into its caller, as those of a linked archive are not.
+//! The cache state is worked on in place, in its bytes. Nothing is allocated, and
+//! a byte is moved only where the call's result needs it moved. No call is
+//! inlined into its caller, as those of a linked archive are not.
 
 mod state;
 
-use state::{number, put_number, Slots, FLOOR, LOGICAL, SLOT};
-
-const FILES: usize = 8;
-const PAGE: usize = 256;
-const PAGES: usize = 16;
-const FILE: usize = PAGE * PAGES;
-const SLOTS: usize = 24;
-const MEDIA: usize = FILES * FILE;
-const FRAMES: usize = SLOTS * PAGE;
-const STATE: usize = 137;
+use layout::{
+    floor_at, logical_at, put_size, size, slot_at, FILES, FILE_BYTES, FRAMES_BYTES, MEDIA_BYTES,
+    PAGES, PAGE_BYTES, SLOTS, SLOT_BYTES, STATE_BYTES, STATE_LOGICAL, STATE_MOUNTED, STATE_SLOTS,
+};
+use state::Slots;
 
 const SHAPE: u32 = 2 << 16;
-const MEDIA_REFUSED: u32 = 3 << 16;
+const MEDIA: u32 = 3 << 16;
 const BOOKS: u32 = 4 << 16;
 const DOWN: u32 = 5 << 16;
 const NO_FILE: u32 = 6 << 16;
@@ -41,22 +36,22 @@ fn admit(
 ) -> Result<(), u32> {
     let (Ok(sizes), Ok(state)) = (
         <&[u32; FILES]>::try_from(sizes),
-        <&[u8; STATE]>::try_from(state),
+        <&[u8; STATE_BYTES]>::try_from(state),
     ) else {
         return Err(SHAPE);
     };
-    if media.len() != MEDIA || frames.len() != FRAMES {
+    if media.len() != MEDIA_BYTES || frames.len() != FRAMES_BYTES {
         return Err(SHAPE);
     }
     // One pass over the sizes for MEDIA and for BOOKS.
     let order = state::sizes_in_order(sizes, state);
     if !order.stored {
-        return Err(MEDIA_REFUSED);
+        return Err(MEDIA);
     }
     if !order.cached || !slots.find(state) {
         return Err(BOOKS);
     }
-    match state[0] {
+    match state[STATE_MOUNTED] {
         1 => {}
         0 if state::is_down(state) => return Err(DOWN),
         _ => return Err(BOOKS),
@@ -70,7 +65,7 @@ fn admit(
 /// Makes the state the down state.
 #[inline(never)]
 pub fn down(state: &mut [u8]) -> u32 {
-    if state.len() != STATE {
+    if state.len() != STATE_BYTES {
         return SHAPE;
     }
     state.fill(0);
@@ -92,34 +87,34 @@ pub fn read(
     if let Err(refused) = admit(media, sizes, frames, state, file, &mut slots) {
         return refused;
     }
-    if position > FILE {
+    if position > FILE_BYTES {
         return RANGE;
     }
-    let logical = number(state, LOGICAL + 4 * file);
+    let logical = size(state, logical_at(file));
     let end = position + buffer.len().min(logical.saturating_sub(position));
     let count = end - position;
     if count == 0 {
         return 0;
     }
-    let floor = number(state, FLOOR + 4 * file);
+    let floor = size(state, floor_at(file));
     let buffer = &mut buffer[..count];
-    let bytes = &media[file * FILE..(file + 1) * FILE];
+    let bytes = &media[file * FILE_BYTES..(file + 1) * FILE_BYTES];
     let mut at = position;
     while at < end {
-        let mut page = at / PAGE;
+        let mut page = at / PAGE_BYTES;
         let stop;
         if let Some(slot) = slots.get(file, page) {
-            stop = (PAGE * (page + 1)).min(end);
-            let start = PAGE * slot + at % PAGE;
+            stop = (PAGE_BYTES * (page + 1)).min(end);
+            let start = PAGE_BYTES * slot + at % PAGE_BYTES;
             buffer[at - position..stop - position]
                 .copy_from_slice(&frames[start..start + (stop - at)]);
         } else {
             // pages that are not cached, in one piece
             page += 1;
-            while PAGE * page < end && slots.get(file, page).is_none() {
+            while PAGE_BYTES * page < end && slots.get(file, page).is_none() {
                 page += 1;
             }
-            stop = (PAGE * page).min(end);
+            stop = (PAGE_BYTES * page).min(end);
             copy_stored(
                 bytes,
                 floor,
@@ -162,47 +157,47 @@ pub fn write(
     if let Err(refused) = admit(media, sizes, frames, state, file, &mut slots) {
         return refused;
     }
-    if bytes.len() > FILE || position > FILE - bytes.len() {
+    if bytes.len() > FILE_BYTES || position > FILE_BYTES - bytes.len() {
         return RANGE;
     }
     if bytes.is_empty() {
         return 0;
     }
-    let stored = &media[file * FILE..(file + 1) * FILE];
-    let floor = number(state, FLOOR + 4 * file);
+    let stored = &media[file * FILE_BYTES..(file + 1) * FILE_BYTES];
+    let floor = size(state, floor_at(file));
     let end = position + bytes.len();
     let mut free = 0;
     let mut at = position;
     while at < end {
-        let page = at / PAGE;
-        let start = PAGE * page;
-        let stop = (start + PAGE).min(end);
+        let page = at / PAGE_BYTES;
+        let start = PAGE_BYTES * page;
+        let stop = (start + PAGE_BYTES).min(end);
         let slot = if let Some(slot) = slots.get(file, page) {
             slot
         } else {
-            while free < SLOTS && state[SLOT + 3 * free] == 1 {
+            while free < SLOTS && state[slot_at(free)] == 1 {
                 free += 1;
             }
             if free == SLOTS {
                 break;
             }
             // The bytes that this write does not replace.
-            let frame = &mut frames[PAGE * free..PAGE * (free + 1)];
+            let frame = &mut frames[PAGE_BYTES * free..PAGE_BYTES * (free + 1)];
             copy_stored(stored, floor, start, &mut frame[..at - start]);
             copy_stored(stored, floor, stop, &mut frame[stop - start..]);
-            state[SLOT + 3 * free..SLOT + 3 * free + 3]
+            state[slot_at(free)..slot_at(free) + SLOT_BYTES]
                 .copy_from_slice(&[1, file as u8, page as u8]);
             free
         };
-        let from = PAGE * slot + (at - start);
+        let from = PAGE_BYTES * slot + (at - start);
         frames[from..from + (stop - at)].copy_from_slice(&bytes[at - position..stop - position]);
         at = stop;
     }
     if at == position {
         return NO_ROOM;
     }
-    let logical = number(state, LOGICAL + 4 * file);
-    put_number(state, LOGICAL + 4 * file, logical.max(at));
+    let logical = size(state, logical_at(file));
+    put_size(state, logical_at(file), logical.max(at));
     (at - position) as u32
 }
 
@@ -220,18 +215,18 @@ pub fn truncate(
     if let Err(refused) = admit(media, sizes, frames, state, file, &mut slots) {
         return refused;
     }
-    if n > FILE {
+    if n > FILE_BYTES {
         return RANGE;
     }
-    let floor = number(state, FLOOR + 4 * file);
-    put_number(state, FLOOR + 4 * file, floor.min(n));
-    put_number(state, LOGICAL + 4 * file, n);
-    for page in n / PAGE..PAGES {
+    let floor = size(state, floor_at(file));
+    put_size(state, floor_at(file), floor.min(n));
+    put_size(state, logical_at(file), n);
+    for page in n / PAGE_BYTES..PAGES {
         let Some(slot) = slots.get(file, page) else {
             continue;
         };
-        if PAGE * page < n {
-            frames[PAGE * slot + n % PAGE..PAGE * (slot + 1)].fill(0);
+        if PAGE_BYTES * page < n {
+            frames[PAGE_BYTES * slot + n % PAGE_BYTES..PAGE_BYTES * (slot + 1)].fill(0);
         } else {
             free_slot(state, slot);
         }
@@ -241,7 +236,7 @@ pub fn truncate(
 
 #[inline(always)]
 fn free_slot(state: &mut [u8], slot: usize) {
-    state[SLOT + 3 * slot..SLOT + 3 * slot + 3].fill(0);
+    state[slot_at(slot)..slot_at(slot) + SLOT_BYTES].fill(0);
 }
 
 /// Stores a file. Each media write is carried out whole, in its order.
@@ -258,15 +253,15 @@ pub fn sync(
     if let Err(refused) = admit(media, sizes, frames, state, file, &mut slots) {
         return refused;
     }
-    let logical = number(state, LOGICAL + 4 * file);
-    let floor = number(state, FLOOR + 4 * file);
+    let logical = size(state, logical_at(file));
+    let floor = size(state, floor_at(file));
     let mut done = 0;
     let cut = |state: &mut [u8]| {
         state.fill(0);
         CUT + budget as u32
     };
 
-    let bytes = &mut media[file * FILE..(file + 1) * FILE];
+    let bytes = &mut media[file * FILE_BYTES..(file + 1) * FILE_BYTES];
     if floor < sizes[file] as usize {
         if done == budget {
             return cut(state);
@@ -275,14 +270,14 @@ pub fn sync(
         sizes[file] = floor as u32;
         done += 1;
     }
-    for (page, bytes) in bytes.chunks_exact_mut(PAGE).enumerate() {
+    for (page, bytes) in bytes.chunks_exact_mut(PAGE_BYTES).enumerate() {
         let Some(slot) = slots.get(file, page) else {
             continue;
         };
         if done == budget {
             return cut(state);
         }
-        bytes.copy_from_slice(&frames[PAGE * slot..PAGE * (slot + 1)]);
+        bytes.copy_from_slice(&frames[PAGE_BYTES * slot..PAGE_BYTES * (slot + 1)]);
         free_slot(state, slot);
         done += 1;
     }
@@ -291,7 +286,7 @@ pub fn sync(
             return cut(state);
         }
         sizes[file] = logical as u32;
-        put_number(state, FLOOR + 4 * file, logical);
+        put_size(state, floor_at(file), logical);
         done += 1;
     }
     done as u32
@@ -300,8 +295,8 @@ pub fn sync(
 /// The bytes from a position to the end of its page or of the file.
 #[inline(always)]
 fn count_in_page(state: &[u8], file: usize, position: usize) -> usize {
-    let logical = number(state, LOGICAL + 4 * file);
-    (PAGE * (position / PAGE + 1))
+    let logical = size(state, logical_at(file));
+    (PAGE_BYTES * (position / PAGE_BYTES + 1))
         .min(logical)
         .saturating_sub(position)
 }
@@ -319,7 +314,7 @@ pub fn look_count(
     if let Err(refused) = admit(media, sizes, frames, state, file, &mut Slots::none()) {
         return refused;
     }
-    if position > FILE {
+    if position > FILE_BYTES {
         return RANGE;
     }
     count_in_page(state, file, position) as u32
@@ -339,23 +334,23 @@ pub fn look(
     if admit(media, sizes, frames, state, file, &mut slots).is_err() {
         return 0;
     }
-    if position > FILE {
+    if position > FILE_BYTES {
         return 0;
     }
     let count = count_in_page(state, file, position);
     if count == 0 {
         return 0;
     }
-    let page = position / PAGE;
+    let page = position / PAGE_BYTES;
     let (offset, source, count) = if let Some(slot) = slots.get(file, page) {
-        (PAGE * slot + position % PAGE, 1, count)
+        (PAGE_BYTES * slot + position % PAGE_BYTES, 1, count)
     } else {
-        let floor = number(state, FLOOR + 4 * file);
+        let floor = size(state, floor_at(file));
         let count = count.min(floor.saturating_sub(position));
         if count == 0 {
             return 0;
         }
-        (FILE * file + position, 0, count)
+        (FILE_BYTES * file + position, 0, count)
     };
     (offset as u64) << 32 | source << 16 | count as u64
 }
@@ -371,14 +366,14 @@ fn all_zero(bytes: &[u8]) -> bool {
 /// Brings the device up.
 #[inline(never)]
 pub fn mount(media: &mut [u8], sizes: &mut [u32], state: &mut [u8], budget: usize) -> u32 {
-    if media.len() != MEDIA || sizes.len() != FILES || state.len() != STATE {
+    if media.len() != MEDIA_BYTES || sizes.len() != FILES || state.len() != STATE_BYTES {
         return SHAPE;
     }
-    if sizes.iter().any(|&size| size as usize > FILE) {
-        return MEDIA_REFUSED;
+    if sizes.iter().any(|&size| size as usize > FILE_BYTES) {
+        return MEDIA;
     }
     let mut trims = 0;
-    for (bytes, &size) in media.chunks_exact_mut(FILE).zip(sizes.iter()) {
+    for (bytes, &size) in media.chunks_exact_mut(FILE_BYTES).zip(sizes.iter()) {
         let past = &mut bytes[size as usize..];
         if all_zero(past) {
             continue;
@@ -390,11 +385,11 @@ pub fn mount(media: &mut [u8], sizes: &mut [u32], state: &mut [u8], budget: usiz
         past.fill(0);
         trims += 1;
     }
-    state[0] = 1;
-    state[SLOT..LOGICAL].fill(0);
+    state[STATE_MOUNTED] = 1;
+    state[STATE_SLOTS..STATE_LOGICAL].fill(0);
     for (file, &size) in sizes.iter().enumerate() {
-        put_number(state, LOGICAL + 4 * file, size as usize);
-        put_number(state, FLOOR + 4 * file, size as usize);
+        put_size(state, logical_at(file), size as usize);
+        put_size(state, floor_at(file), size as usize);
     }
     trims as u32
 }
@@ -402,12 +397,12 @@ pub fn mount(media: &mut [u8], sizes: &mut [u32], state: &mut [u8], budget: usiz
 /// Empties all files.
 #[inline(never)]
 pub fn format(media: &mut [u8], sizes: &mut [u32], state: &mut [u8], budget: usize) -> u32 {
-    if media.len() != MEDIA || sizes.len() != FILES || state.len() != STATE {
+    if media.len() != MEDIA_BYTES || sizes.len() != FILES || state.len() != STATE_BYTES {
         return SHAPE;
     }
     state.fill(0);
     let mut trims = 0;
-    for (bytes, size) in media.chunks_exact_mut(FILE).zip(sizes) {
+    for (bytes, size) in media.chunks_exact_mut(FILE_BYTES).zip(sizes) {
         if *size == 0 && all_zero(bytes) {
             continue;
         }
@@ -441,7 +436,7 @@ pub fn truncate_sizes(sizes: &mut [u32], n: usize, greatest: u32) -> u32 {
 /// The media write of a page.
 #[inline(never)]
 pub fn write_page(page: &mut [u8], bytes: &[u8]) -> u32 {
-    if page.len() != PAGE || bytes.len() != PAGE {
+    if page.len() != PAGE_BYTES || bytes.len() != PAGE_BYTES {
         return SHAPE;
     }
     page.copy_from_slice(bytes);
@@ -451,13 +446,13 @@ pub fn write_page(page: &mut [u8], bytes: &[u8]) -> u32 {
 /// The media write of a stored size.
 #[inline(never)]
 pub fn write_size(media: &[u8], sizes: &mut [u32], file: usize, n: usize) -> u32 {
-    if media.len() != MEDIA || sizes.len() != FILES {
+    if media.len() != MEDIA_BYTES || sizes.len() != FILES {
         return SHAPE;
     }
     if file >= FILES {
         return NO_FILE;
     }
-    if n > FILE {
+    if n > FILE_BYTES {
         return RANGE;
     }
     sizes[file] = n as u32;
@@ -467,16 +462,16 @@ pub fn write_size(media: &[u8], sizes: &mut [u32], file: usize, n: usize) -> u32
 /// The media write that clears a file from `n` on.
 #[inline(never)]
 pub fn trim(media: &mut [u8], sizes: &mut [u32], file: usize, n: usize) -> u32 {
-    if media.len() != MEDIA || sizes.len() != FILES {
+    if media.len() != MEDIA_BYTES || sizes.len() != FILES {
         return SHAPE;
     }
     if file >= FILES {
         return NO_FILE;
     }
-    if n > FILE || n > sizes[file] as usize {
+    if n > FILE_BYTES || n > sizes[file] as usize {
         return RANGE;
     }
-    media[FILE * file + n..FILE * (file + 1)].fill(0);
+    media[FILE_BYTES * file + n..FILE_BYTES * (file + 1)].fill(0);
     sizes[file] = n as u32;
     0
 }

@@ -1,19 +1,6 @@
 //! The cache state in its bytes.
 
-use super::{FILES, PAGES, SLOTS, STATE};
-
-/// Offset of the slots, of three bytes each.
-pub const SLOT: usize = 1;
-/// Offset of the logical sizes.
-pub const LOGICAL: usize = SLOT + 3 * SLOTS;
-/// Offset of the floors.
-pub const FLOOR: usize = LOGICAL + 4 * FILES;
-
-/// The number at these four bytes.
-#[inline(always)]
-pub fn number(state: &[u8], at: usize) -> usize {
-    word(state, at) as usize
-}
+use layout::{floor_at, logical_at, slot_at, FILES, FILE_BYTES, PAGES, SLOTS, STATE_BYTES};
 
 #[inline(always)]
 fn word(state: &[u8], at: usize) -> u32 {
@@ -23,12 +10,6 @@ fn word(state: &[u8], at: usize) -> u32 {
 #[inline(always)]
 fn double_word(state: &[u8], at: usize) -> u64 {
     u64::from_le_bytes(state[at..at + 8].try_into().expect("eight bytes"))
-}
-
-/// Puts a number, at most 4,096, at these four bytes.
-#[inline(always)]
-pub fn put_number(state: &mut [u8], at: usize, n: usize) {
-    state[at..at + 4].copy_from_slice(&(n as u32).to_le_bytes());
 }
 
 /// Which sizes are in order.
@@ -43,17 +24,17 @@ pub struct Order {
 /// numbers have a clear top bit, that bit of the first with its top bit set,
 /// less the second, says whether the first is at least the second.
 #[inline(always)]
-pub fn sizes_in_order(sizes: &[u32; FILES], state: &[u8; STATE]) -> Order {
+pub fn sizes_in_order(sizes: &[u32; FILES], state: &[u8; STATE_BYTES]) -> Order {
     const TOP: u64 = 0x8000_0000_8000_0000;
-    const FILE: u64 = TOP | (super::FILE as u64) << 32 | super::FILE as u64;
+    const FILE: u64 = TOP | (FILE_BYTES as u64) << 32 | FILE_BYTES as u64;
     let mut stored_tops = 0;
     let mut stored_fits = TOP;
     let mut tops = 0;
     let mut fits = TOP;
     for pair in 0..FILES / 2 {
         let stored = u64::from(sizes[2 * pair]) | u64::from(sizes[2 * pair + 1]) << 32;
-        let logical = double_word(state, LOGICAL + 8 * pair);
-        let floor = double_word(state, FLOOR + 8 * pair);
+        let logical = double_word(state, logical_at(2 * pair));
+        let floor = double_word(state, floor_at(2 * pair));
         stored_tops |= stored;
         stored_fits &= FILE.wrapping_sub(stored);
         tops |= logical | floor;
@@ -90,12 +71,12 @@ impl Slots {
     /// Puts the slots of a state down. False where a slot is neither free nor
     /// names a page that there is, or two name the same page.
     #[inline(always)]
-    pub fn find(&mut self, state: &[u8; STATE]) -> bool {
+    pub fn find(&mut self, state: &[u8; STATE_BYTES]) -> bool {
         let mut wrong = 0;
         let mut first = NONE;
         let mut put = |slot: usize| {
             // The top byte is the next slot's.
-            let bits = word(state, SLOT + 3 * slot) & 0xff_ffff;
+            let bits = word(state, slot_at(slot)) & 0xff_ffff;
             if bits != 0 {
                 // A used slot has 1 in its low byte, and a file and a page.
                 wrong |= (bits ^ 1) & !0x0f_0700;
@@ -106,7 +87,7 @@ impl Slots {
         };
         // Eight slots at a time; those that are all free in three words.
         for group in 0..SLOTS / 8 {
-            let [a, b, c] = [0, 8, 16].map(|i| double_word(state, SLOT + 24 * group + i));
+            let [a, b, c] = [0, 8, 16].map(|i| double_word(state, slot_at(8 * group) + i));
             if a | b | c != 0 {
                 for slot in [0, 1, 2, 3, 4, 5, 6, 7] {
                     put(8 * group + slot);
@@ -119,6 +100,6 @@ impl Slots {
 
 /// Whether all bytes are 0.
 #[inline(always)]
-pub fn is_down(state: &[u8; STATE]) -> bool {
+pub fn is_down(state: &[u8; STATE_BYTES]) -> bool {
     state.iter().fold(0, |all, byte| all | byte) == 0
 }

@@ -6,7 +6,7 @@ use std::io;
 use std::os::unix::fs::FileExt;
 use std::path::Path;
 
-use boxstore::{FILE_BYTES, PAGE_BYTES};
+use layout::{FILE_BYTES, PAGE_BYTES};
 
 use super::{named, pages, Other};
 

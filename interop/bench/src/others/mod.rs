@@ -11,7 +11,7 @@ use std::fs;
 use std::io;
 use std::path::{Path, PathBuf};
 
-use boxstore::{FILE_BYTES, PAGE_BYTES};
+use layout::{FILE_BYTES, PAGE_BYTES};
 
 /// Keeps a serial, an odometer's entries, and a file of 4,096 bytes.
 pub trait Other {
