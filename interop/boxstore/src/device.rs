@@ -2,10 +2,8 @@
 
 use core::fmt;
 
-use crate::{
-    raw, Error, FILES, FRAMES_BYTES, MEDIA_BYTES, SLOTS, STATE_BYTES, STATE_LOGICAL, STATE_MOUNTED,
-    STATE_SLOTS,
-};
+use crate::{raw, Error, FILES, FRAMES_BYTES, MEDIA_BYTES, SLOTS, STATE_BYTES, STATE_MOUNTED};
+use layout::{logical_at, size, slot_at};
 
 /// What the frames hold after a loss of power: neither zeros nor text.
 const LOST: u8 = 0xa5;
@@ -99,7 +97,7 @@ impl Device {
     /// file.
     pub fn cached_pages(&self) -> usize {
         (0..SLOTS)
-            .filter(|slot| self.state[STATE_SLOTS + 3 * slot] == 1)
+            .filter(|&slot| self.state[slot_at(slot)] == 1)
             .count()
     }
 
@@ -107,9 +105,7 @@ impl Device {
     pub fn len(&self, file: usize) -> Result<usize, Error> {
         // a look at 0 has the refusals of a read
         self.look_count(file, 0)?;
-        let at = STATE_LOGICAL + 4 * file;
-        let bytes = [0, 1, 2, 3].map(|i| self.state[at + i]);
-        Ok(u32::from_le_bytes(bytes) as usize)
+        Ok(size(&self.state, logical_at(file)))
     }
 
     /// Empties all files, in at most `budget` media writes, and answers how

@@ -71,32 +71,8 @@ pub mod raw;
 pub use device::Device;
 pub use error::Error;
 
-/// Number of files; they are numbered from 0.
-pub const FILES: usize = 8;
-/// Bytes in a page.
-pub const PAGE_BYTES: usize = 256;
-/// Greatest size of a file.
-pub const FILE_BYTES: usize = 4_096;
-/// Pages that the cache holds, over all files together.
-pub const SLOTS: usize = 24;
-/// Bytes of the media.
-pub const MEDIA_BYTES: usize = FILES * FILE_BYTES;
-/// Bytes of the frames, which hold the cached pages.
-pub const FRAMES_BYTES: usize = SLOTS * PAGE_BYTES;
-/// Bytes of the cache state.
-pub const STATE_BYTES: usize = 137;
-
-/// Where in the cache state it says whether the device is mounted.
-pub const STATE_MOUNTED: usize = 0;
-/// Where in the cache state the slots begin, three bytes each.
-pub const STATE_SLOTS: usize = 1;
-/// Where in the cache state the logical sizes begin, four bytes each.
-pub const STATE_LOGICAL: usize = 73;
-/// Where in the cache state the floors begin, four bytes each.
-pub const STATE_FLOOR: usize = 105;
-
-/// The most media writes that a sync needs: a budget that is never cut.
-pub const SYNC_WRITES: usize = 18;
-/// The most media writes that a mount or a format needs: a budget that is
-/// never cut.
-pub const MOUNT_WRITES: usize = 8;
+#[doc(inline)]
+pub use layout::{
+    FILES, FILE_BYTES, FRAMES_BYTES, MEDIA_BYTES, MOUNT_WRITES, PAGE_BYTES, SLOTS, STATE_BYTES,
+    STATE_FLOOR, STATE_LOGICAL, STATE_MOUNTED, STATE_SLOTS, SYNC_WRITES,
+};
