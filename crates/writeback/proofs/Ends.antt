@@ -1,6 +1,6 @@
 -- How the calls end: a sync on the bytes of a state, refused, cut or done; an admitted mount and format.
 use mathlib.Core.Path.{_≡_}
-use mathlib.Core.Bool.{true}
+use mathlib.Core.Bool.{true, false}
 use mathlib.Core.List.{List}
 use Prim.Native.Nat.{ℕ, _≤_, _<_}
 use lib.ListN.{length}
@@ -9,15 +9,13 @@ use Rattle.answer.specs.declared.Refusal.{Refusal}
 use Rattle.answer.specs.Coded.{done, CUT, codedRefusal}
 use Rattle.answer.specs.Admission.{firstRefusal}
 use Rattle.answer.proofs.Admission.{passed}
-use Rattle.memory.specs.Bytes.{zeros}
-use Rattle.media.specs.Geometry.{files}
 use Rattle.media.specs.Write.{Media}
 use Rattle.device.specs.Device.{Device, deviceOf, downState, mountedState}
 use Rattle.device.specs.Admission.{give, fileTests, mediaShape, mountTests}
-use Rattle.device.specs.Plan.{budgeted, underBudget, Spent}
+use Rattle.device.specs.Plan.{budgeted, Spent}
 use Rattle.device.specs.Syncing.{syncPlan, syncedState, sync}
-use Rattle.device.specs.Mounting.{mount, format}
-use Rattle.device.proofs.Admission.{admit-refused, admit-passed}
+use Rattle.device.specs.Mounting.{mountPlan, mount, formatPlan, format}
+use Rattle.device.proofs.Admission.{admit-refused}
 use Rattle.device.proofs.Plan.{plan-ends}
 use Rattle.state_bytes.specs.Encoding.{stateBytes, encode, decode}
 use Rattle.state_bytes.specs.Inverse.{areBytes}
@@ -46,13 +44,14 @@ module _ (P f budget : ℕ) (l : Borrowed) where
         → give (done n) (borrowed m (l .frames) after) ≡ onBytes (sync P f budget) l
     done-ends k after q small e = bytes-on (sync P f budget) l h (done n) m (l .frames) after q small (rw (le-ltb budget n k, ← e) at ends)
 
--- the plan of an admitted mount or format, by the sizes that the files get
-module _ (P budget : ℕ) (d : Device) where
-  pub mount-ends : passed (mountTests P (d .media)) ≡ true
-      → underBudget P budget (trimsTo P (d .media) (d .media .sizes)) (mountedState (d .media .sizes)) d ≡ mount P budget d
+-- n writes were needed by an admitted mount or format, and the media is m
+module _ (P budget : ℕ) (d : Device) (n : ℕ) (m : Media) where
+  pub mount-ends : Spent P budget (d .media) 0 n (trimsTo P false (d .media)) m → passed (mountTests P (d .media)) ≡ true
+      → budgeted budget n m (d .frames) (mountedState (d .media .sizes)) ≡ mount P budget d
   unfolding mount
-  mount-ends h = rw (← mount-trims P (d .media)) (admit-passed (mountTests P (d .media)) d _ h)
+  mount-ends x = plan-ends P budget (mountPlan P (d .media)) (mountedState (d .media .sizes)) d n m (rw (← mount-trims P (d .media)) at x) (mountTests P (d .media))
 
-  pub format-ends : passed (mediaShape P (d .media)) ≡ true → underBudget P budget (trimsTo P (d .media) (zeros files)) downState d ≡ format P budget d
+  pub format-ends : Spent P budget (d .media) 0 n (trimsTo P true (d .media)) m → passed (mediaShape P (d .media)) ≡ true
+      → budgeted budget n m (d .frames) downState ≡ format P budget d
   unfolding format
-  format-ends h = rw (← format-trims P (d .media)) (admit-passed (mediaShape P (d .media)) d _ h)
+  format-ends x = plan-ends P budget (formatPlan P (d .media)) downState d n m (rw (← format-trims P (d .media)) at x) (mediaShape P (d .media))

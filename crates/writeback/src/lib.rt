@@ -15,13 +15,12 @@ ghost use lib.Dec.{eqb, ltb};
 ghost use Rattle.answer.specs.Coded.{coded, CUT};
 ghost use Rattle.memory.specs.Bytes.{part};
 ghost use Rattle.media.specs.Geometry.{files, pagesPerFile, pageBytes, fileBytes, mediaBytes};
-ghost use Rattle.media.specs.Write.{mediaOf, apply};
+ghost use Rattle.media.specs.Write.{Media, mediaOf, apply};
 ghost use Rattle.media.specs.Write.MediaWrite.{page, size, trim};
 ghost use Rattle.scan.specs.Scan.{every};
-ghost use Rattle.device.specs.declared.CacheState.{CacheState};
-ghost use Rattle.device.specs.Device.{Device, deviceOf, slotCount, framesBytes, frameStart, downState};
+ghost use Rattle.device.specs.Device.{Device, slotCount, framesBytes, frameStart, downState};
 ghost use Rattle.device.specs.Admission.{give};
-ghost use Rattle.device.specs.Plan.{writeIf, underBudget, Spent};
+ghost use Rattle.device.specs.Plan.{writeIf, budgeted, Spent};
 ghost use Rattle.device.specs.Syncing.{pageWrites, syncPlan, syncedState, sync};
 ghost use Rattle.device.specs.Mounting.{nonzeroFrom, mount, format};
 ghost use Rattle.state_bytes.specs.Encoding.{stateBytes, encode, decode};
@@ -30,7 +29,7 @@ ghost use Rattle.media.specs.Moments.{mediaAtEntry, mediaAtExit};
 ghost use Rattle.device.specs.Moments.{deviceAtEntry};
 ghost use Rattle.state_bytes.specs.Moments.{borrowedAtEntry, borrowedAtExit};
 ghost use Rattle.admission.specs.Tables.{slotTable};
-ghost use Rattle.writeback.specs.Trims.{needsTrim, trimsTo};
+ghost use Rattle.writeback.specs.Trims.{needsTrim, trimOf, trimsTo};
 
 // Whether a media write is made: it is wanted, and the budget pays for it after those needed before it.
 fn is_made(wanted: bool, needed: usize, budget: usize) -> bool
@@ -106,12 +105,14 @@ fn page_if(
         (writeIf (ltb k slotCount) (page file number (part (now (frames .entry)) (frameStart k) pageBytes)))
         (mediaOf (now (media .exit)) stored)) ⌝ }
 {
-    let cached = k < device::SLOTS;
-    if is_made(cached, needed, budget) {
-        write_frame(media, frames, file, number, k, media::PAGES_PER_FILE);
-        return with_one(cached, needed);
+    if k < device::SLOTS {
+        if needed < budget {
+            write_frame(media, frames, file, number, k, media::PAGES_PER_FILE);
+            return needed + 1;
+        }
+        return needed + 1;
     }
-    with_one(cached, needed)
+    needed
 }
 
 // The cached pages of a file, ascending, each if the budget pays. The table has their slots. The number of writes needed so far
@@ -288,50 +289,63 @@ fn needs_trim(media: &[u8], sizes: &[u32], file: usize, n: usize) -> bool
     nonzero_from(media, file, n)
 }
 
-// The TRIMs that give each file its size in a list, as many as the budget pays for. The number needed comes back.
-fn trim_files(
+// The size that a file gets: 0 where the files are emptied, or its stored size.
+fn target_size(sizes: &[u32], file: usize, empties: bool) -> usize
+    requires { ⌜ (length (now sizes) ≡ files) × (file < files) ⌝ }
+    ensures { λ r. ⌜ r ≡ cond empties 0 (getD (now (sizes .entry)) file 0) ⌝ }
+{
+    if empties {
+        return 0;
+    }
+    sizes[file] as usize
+}
+
+// One file of a mount or a format: TRIM to the size that it gets, where it needs that.
+fn trim_file(
     media: &mut [u8],
     sizes: &mut [u32],
-    targets: &[u32; media::FILES],
+    file: usize,
+    empties: bool,
     budget: usize,
+    needed: usize,
 ) -> usize
+    requires { ⌜ (length (now media) ≡ mediaBytes pagesPerFile) × (length (now sizes) ≡ files) × (file < files)
+        × (cond empties 0 (getD (now sizes) file 0) ≤ fileBytes pagesPerFile) × (needed < 2 ^ 32) ⌝ }
+    ensures { λ r. ⌜ Spent pagesPerFile budget (mediaAtEntry media sizes) needed r
+        (trimOf pagesPerFile empties (mediaAtEntry media sizes) file) (mediaAtExit media sizes) ⌝ }
+{
+    let n = target_size(sizes, file, empties);
+    let wanted = needs_trim(media, sizes, file, n);
+    trim_if(media, sizes, file, n, wanted, budget, needed)
+}
+
+// The TRIMs of a mount, or those of a format, which empties the files, as many as the budget pays for. The number needed comes back.
+fn trim_files(media: &mut [u8], sizes: &mut [u32], empties: bool, budget: usize) -> usize
     requires { ⌜ (length (now media) ≡ mediaBytes pagesPerFile) × (length (now sizes) ≡ files)
-        × ((f : ℕ) → f < files → (getD (now targets) f 0 ≤ getD (now sizes) f 0) × (getD (now targets) f 0 ≤ fileBytes pagesPerFile)) ⌝ }
+        × ((f : ℕ) → f < files → cond empties 0 (getD (now sizes) f 0) ≤ fileBytes pagesPerFile) ⌝ }
     ensures { λ r. ⌜ Spent pagesPerFile budget (mediaAtEntry media sizes) 0 r
-        (trimsTo pagesPerFile (mediaAtEntry media sizes) (now (targets .entry))) (mediaAtExit media sizes) ⌝ }
+        (trimsTo pagesPerFile empties (mediaAtEntry media sizes)) (mediaAtExit media sizes) ⌝ }
 {
     let mut needed = 0;
     let mut f = 0;
     while f < media::FILES {
-        let n = targets[f] as usize;
-        let wanted = needs_trim(media, sizes, f, n);
-        needed = trim_if(media, sizes, f, n, wanted, budget, needed);
+        needed = trim_file(media, sizes, f, empties, budget, needed);
         f += 1;
     }
     needed
 }
 
-// A mount or a format that is admitted: each file gets its size in the list, and the state becomes this one; or it is CUT.
-fn restart(
-    media: &mut [u8],
-    sizes: &mut [u32],
-    state: &mut [u8],
-    targets: &[u32; media::FILES],
-    cache: CacheState,
-    budget: usize,
-) -> Answer
-    requires { ⌜ (length (now media) ≡ mediaBytes pagesPerFile) × (length (now sizes) ≡ files) × (length (now state) ≡ stateBytes)
-        × ((f : ℕ) → f < files → (getD (now targets) f 0 ≤ getD (now sizes) f 0) × (getD (now targets) f 0 ≤ fileBytes pagesPerFile)) ⌝ }
-    ensures { λ r. ⌜ ((frames : List ℕ) (c : CacheState) → give (coded r) (borrowed (mediaAtExit media sizes) frames (now (state .exit)))
-        ≡ inBytes (underBudget pagesPerFile budget (trimsTo pagesPerFile (mediaAtEntry media sizes) (now (targets .entry))) cache
-        (deviceOf (mediaAtEntry media sizes) frames c))) ⌝ }
+// The end of a mount or a format that needed so many media writes: done with their number, and the bytes of this state; or CUT.
+fn finish(state: &mut [u8], writes: usize, budget: usize, cache: CacheState) -> Answer
+    requires { ⌜ length (now state) ≡ stateBytes ⌝ }
+    ensures { λ r. ⌜ ((m : Media) (frames : List ℕ) → give (coded r) (borrowed m frames (now (state .exit)))
+        ≡ inBytes (budgeted budget writes m frames cache)) ⌝ }
 {
-    let trims = trim_files(media, sizes, targets, budget);
-    if budget < trims {
+    if budget < writes {
         return cut(state, budget);
     }
     state_bytes::encode(cache, state);
-    Answer::Done(trims)
+    Answer::Done(writes)
 }
 
 // The stored sizes, by value.
@@ -359,8 +373,8 @@ pub fn mount(media: &mut [u8], sizes: &mut [u32], state: &mut [u8], budget: usiz
         Answer::Refused(refusal) => Answer::Refused(refusal),
         Answer::Done(_) => {
             let found = sizes_array(sizes);
-            let up = admission::mounted_state(found);
-            restart(media, sizes, state, &found, up, budget)
+            let trims = trim_files(media, sizes, false, budget);
+            finish(state, trims, budget, admission::mounted_state(found))
         }
     }
 }
@@ -375,8 +389,8 @@ pub fn format(media: &mut [u8], sizes: &mut [u32], state: &mut [u8], budget: usi
     match admitted {
         Answer::Refused(refusal) => Answer::Refused(refusal),
         Answer::Done(_) => {
-            let empty = [0u32; media::FILES];
-            restart(media, sizes, state, &empty, device::down_state(), budget)
+            let trims = trim_files(media, sizes, true, budget);
+            finish(state, trims, budget, device::down_state())
         }
     }
 }

@@ -9,13 +9,12 @@ use borrow.Author.Needs.{needs}
 use Rattle.answer.specs.declared.Answer.the-variants.{Refused}
 use Rattle.answer.proofs.Coded.{coded-of}
 use Rattle.answer.proofs.Admission.{passed}
-use Rattle.memory.proofs.Bytes.{getD-zeros}
-use Rattle.media.specs.Geometry.{files, pagesPerFile}
+use Rattle.media.specs.Geometry.{pagesPerFile}
 use Rattle.media.specs.Write.{Media, mediaOf}
 use Rattle.device.specs.Admission.{mediaShape}
 use Rattle.device.specs.Mounting.{format}
 use Rattle.device.proofs.Admission.{admit-refused, shape-refusing, shape-admitted}
-use Rattle.state_bytes.specs.Encoding.{stateBytes, decode}
+use Rattle.state_bytes.specs.Encoding.{stateBytes}
 use Rattle.state_bytes.specs.InPlace.{Borrowed, borrowed, deviceIn, inBytes}
 use Rattle.state_bytes.proofs.Inverse.{are-bytes}
 use Rattle.state_bytes.proofs.OnBytes.{shape-passed, refused-on, length-on}
@@ -45,14 +44,17 @@ enum-known-admitted c = search needs
 enum-told : tie.Need-enum-told
 enum-told c = search needs
 
+trim-files-requires : tie.Need-trim-files-requires
+trim-files-requires c κs =
+    let t = c .before .before in
+    let ok = shape-admitted pagesPerFile (deviceIn (came (start t) [])) (all t .1) in
+    (ok .0, ok .1, λ f hf. omega arith)
+
 down-state-requires : tie.Need-down-state-requires
 down-state-requires c κs = search needs
 
-restart-requires : tie.Need-restart-requires
-restart-requires c κs =
-    let t = c .before .before .before .before .before in
-    let ok = shape-admitted pagesPerFile (deviceIn (came (start t) [])) (all t .1) in
-    (ok .0, ok .1, all t .0, λ f hf. rw (getD-zeros files f) (omega arith, omega arith))
+finish-requires : tie.Need-finish-requires
+finish-requires c κs = all (c .before .before .before .before .before .before .before .before .before) .0
 
 same-length : tie.Need-same-length
 same-length c = search needs
@@ -81,13 +83,15 @@ same-length-5 c = search needs
 
 returns-2 : tie.Need-returns-2
 returns-2 c =
-    let w = c .before .before .before .before .before .before in
-    let t = w .before .before .before .before .before .before in
+    let w = c .before .before .before .before .before .before .before .before .before in
+    let t = w .before .before .before in
     let s = start t in
     λ frames.
     let l = came s frames in
-    w .restart .ensures frames (decode (s .args .state .now))
-    ∙ rw (w .before .down-state .ensures) (ap inBytes (format-ends pagesPerFile (s .args .budget) (deviceIn l) (all t .1)))
+    c .before .before .finish .ensures _ frames
+    ∙ rw (c .before .before .before .down-state .ensures)
+    (ap inBytes
+    (format-ends pagesPerFile (s .args .budget) (deviceIn l) (w .trim-files .result) _ (w .trim-files .ensures) (all t .1)))
     ∙ length-on (format pagesPerFile (s .args .budget)) l (all t .0)
 
 pub format-spec : {M : Type 1} → statement M
@@ -97,8 +101,9 @@ format-spec =
     admit-format-requires
     enum-known-admitted
     enum-told
+    trim-files-requires
     down-state-requires
-    restart-requires
+    finish-requires
     same-length
     same-length-2
     returns

@@ -3,7 +3,6 @@ use mathlib.Core.Path.{_≡_, refl, ap, _∙_}
 use mathlib.Core.Bool.{true}
 use mathlib.Core.List.{List, []}
 use Prim.Native.Nat.{ℕ}
-use native.Mathlib.Omega.{arith}
 use lib.ListN.{length}
 use borrow.Author.Needs.{needs}
 use Rattle.answer.specs.declared.Answer.the-variants.{Refused}
@@ -14,7 +13,7 @@ use Rattle.media.specs.Write.{Media, mediaOf}
 use Rattle.device.specs.Admission.{mountTests}
 use Rattle.device.specs.Mounting.{mount}
 use Rattle.device.proofs.Admission.{Mountable, admit-refused, mount-refusing, mount-admitted}
-use Rattle.state_bytes.specs.Encoding.{stateBytes, decode}
+use Rattle.state_bytes.specs.Encoding.{stateBytes}
 use Rattle.state_bytes.specs.InPlace.{Borrowed, borrowed, deviceIn, inBytes}
 use Rattle.state_bytes.proofs.Inverse.{are-bytes}
 use Rattle.state_bytes.proofs.OnBytes.{shape-passed, refused-on, length-on}
@@ -50,15 +49,14 @@ enum-told c = search needs
 sizes-array-requires : tie.Need-sizes-array-requires
 sizes-array-requires c κs = ready (c .before) .sizes
 
+trim-files-requires : tie.Need-trim-files-requires
+trim-files-requires c κs = let ok = ready (c .before .before .before .before) in (ok .bytes, ok .sizes, ok .fit)
+
 mounted-state-requires : tie.Need-mounted-state-requires
 mounted-state-requires c κs = search needs
 
-restart-requires : tie.Need-restart-requires
-restart-requires c κs =
-    let z = c .before .before .before .before .before in
-    let t = z .before .before in
-    let ok = ready t in
-    (ok .bytes, ok .sizes, all t .0, λ f hf. rw (z .sizes-array .ensures) (omega arith, ok .fit f hf))
+finish-requires : tie.Need-finish-requires
+finish-requires c κs = let w = c .before .before .before .before .before .before in all (w .before .before .before .before .before) .0
 
 same-length : tie.Need-same-length
 same-length c = search needs
@@ -87,15 +85,16 @@ same-length-5 c = search needs
 
 returns-2 : tie.Need-returns-2
 returns-2 c =
-    let w = c .before .before .before .before .before .before in
-    let u = w .before .before .before .before .before in
-    let z = u .before in
+    let w = c .before .before .before .before .before .before .before .before .before in
+    let z = w .before .before .before in
     let t = z .before .before in
     let s = start t in
     λ frames.
     let l = came s frames in
-    w .restart .ensures frames (decode (s .args .state .now))
-    ∙ rw (u .mounted-state .ensures, z .sizes-array .ensures) (ap inBytes (mount-ends pagesPerFile (s .args .budget) (deviceIn l) (all t .1)))
+    c .before .before .finish .ensures _ frames
+    ∙ rw (c .before .before .before .mounted-state .ensures, z .sizes-array .ensures)
+    (ap inBytes
+    (mount-ends pagesPerFile (s .args .budget) (deviceIn l) (w .trim-files .result) _ (w .trim-files .ensures) (all t .1)))
     ∙ length-on (mount pagesPerFile (s .args .budget)) l (all t .0)
 
 pub mount-spec : {M : Type 1} → statement M
@@ -106,8 +105,9 @@ mount-spec =
     enum-known-admitted
     enum-told
     sizes-array-requires
+    trim-files-requires
     mounted-state-requires
-    restart-requires
+    finish-requires
     same-length
     same-length-2
     returns

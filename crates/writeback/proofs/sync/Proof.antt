@@ -23,7 +23,7 @@ abbrev device : tie.Start → Borrowed
 device s = borrowed (mediaOf (s .args .media .now) (s .args .sizes .now)) (s .args .frames .now) (s .args .state .now)
 
 abbrev start : tie.After-enum-told → tie.Start
-start c = c .before .before .before .before .before .before .before .before .before .before
+start c = let b = c .before .before in b .before .before .before .before .before .before .before .before
 
 -- what `admit` has tested
 all : (c : tie.After-enum-told) → (length (start c .args .state .now) ≡ stateBytes) × (passed (fileTests pagesPerFile (deviceIn (device (start c))) (start c .args .file) true) ≡ true)
@@ -59,7 +59,7 @@ sync-writes-requires c κs =
     )
 
 cut-requires : tie.Need-cut-requires
-cut-requires c κs = all (c .before .before .before .before .before .before .before .before .before .before .before) .0
+cut-requires c κs = let w = c .before .before .before .before .before .before in all (w .before .before .before .before .before) .0
 
 same-length : tie.Need-same-length
 same-length c = search needs
@@ -80,7 +80,7 @@ returns c =
     (cut-ends pagesPerFile (s .args .file) (s .args .budget) (device s) (w .sync-writes .result) _ (w .sync-writes .ensures) (all t .0) (all t .1) (omega arith))
 
 sync-state-requires : tie.Need-sync-state-requires
-sync-state-requires c κs = all (c .before .before .before .before .before .before .before .before .before .before .before) .0
+sync-state-requires c κs = let w = c .before .before .before .before .before .before in all (w .before .before .before .before .before) .0
 
 same-length-4 : tie.Need-same-length-4
 same-length-4 c = search needs

@@ -35,7 +35,7 @@ returns c =
     let l = x .before .before in
     let s = l .before .before .before in
     let a = s .args in
-    let freed = freed-changed (a .file) 0 (a .state .now) (s .pre) (are-bytes _ (c .before .before .before .before .before .before .before .before .before .before .slice-known .given)) (x .free-pages-from .last .0) (x .free-pages-from .ensures) in
+    let freed = freed-changed (a .file) 0 (a .state .now) (s .pre) (are-bytes _ (l .before .before .slice-known .given)) (x .free-pages-from .last .0) (x .free-pages-from .ensures) in
     floor-changed (x .free-pages-from .last .0) (omega (arith, x .free-pages-from .kept .0)) (are-bytes _ (c .before .before .before .before .slice-known2 .given)) (a .file) (l .logical-at .result) (y .set-floor .last .0) (y .set-floor .ensures)
     ∙ rw (freed, l .logical-at .ensures)
     (ap (λ (slots : List Slot). withFloor (withSlots (decode (a .state .now)) slots) (a .file) (getD (decode (a .state .now) .logical) (a .file) 0)) (free-all (a .file) (decode (a .state .now) .slots)))

@@ -40,7 +40,8 @@ trim-if-requires c κs = search needs
 write-pages-requires : tie.Need-write-pages-requires
 write-pages-requires c κs =
     let t = c .before .before .before .before .before in
-    let s = t .before .before .before .before .before .before .before .before .before .before in
+    let l = t .before .before .before .before .before in
+    let s = l .before .before .before .before .before in
     let a = s .args in (
       omega arith,
       omega arith,
