@@ -1,6 +1,6 @@
 -- How the calls end: a sync on the bytes of a state, refused, cut or done; an admitted mount and format.
 use mathlib.Core.Path.{_≡_}
-use mathlib.Core.Bool.{true, false}
+use mathlib.Core.Bool.{true}
 use mathlib.Core.List.{List}
 use Prim.Native.Nat.{ℕ, _≤_, _<_}
 use lib.ListN.{length}
@@ -9,6 +9,8 @@ use Rattle.answer.specs.declared.Refusal.{Refusal}
 use Rattle.answer.specs.Coded.{done, CUT, codedRefusal}
 use Rattle.answer.specs.Admission.{firstRefusal}
 use Rattle.answer.proofs.Admission.{passed}
+use Rattle.memory.specs.Bytes.{zeros}
+use Rattle.media.specs.Geometry.{files}
 use Rattle.media.specs.Write.{Media}
 use Rattle.device.specs.Device.{Device, deviceOf, downState, mountedState}
 use Rattle.device.specs.Admission.{give, fileTests, mediaShape, mountTests}
@@ -46,12 +48,12 @@ module _ (P f budget : ℕ) (l : Borrowed) where
 
 -- n writes were needed by an admitted mount or format, and the media is m
 module _ (P budget : ℕ) (d : Device) (n : ℕ) (m : Media) where
-  pub mount-ends : Spent P budget (d .media) 0 n (trimsTo P false (d .media)) m → passed (mountTests P (d .media)) ≡ true
+  pub mount-ends : Spent P budget (d .media) 0 n (trimsTo P (d .media) (d .media .sizes)) m → passed (mountTests P (d .media)) ≡ true
       → budgeted budget n m (d .frames) (mountedState (d .media .sizes)) ≡ mount P budget d
   unfolding mount
   mount-ends x = plan-ends P budget (mountPlan P (d .media)) (mountedState (d .media .sizes)) d n m (rw (← mount-trims P (d .media)) at x) (mountTests P (d .media))
 
-  pub format-ends : Spent P budget (d .media) 0 n (trimsTo P true (d .media)) m → passed (mediaShape P (d .media)) ≡ true
+  pub format-ends : Spent P budget (d .media) 0 n (trimsTo P (d .media) (zeros files)) m → passed (mediaShape P (d .media)) ≡ true
       → budgeted budget n m (d .frames) downState ≡ format P budget d
   unfolding format
   format-ends x = plan-ends P budget (formatPlan P (d .media)) downState d n m (rw (← format-trims P (d .media)) at x) (mediaShape P (d .media))

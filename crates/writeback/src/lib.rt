@@ -29,7 +29,7 @@ ghost use Rattle.media.specs.Moments.{mediaAtEntry, mediaAtExit};
 ghost use Rattle.device.specs.Moments.{deviceAtEntry};
 ghost use Rattle.state_bytes.specs.Moments.{borrowedAtEntry, borrowedAtExit};
 ghost use Rattle.admission.specs.Tables.{slotTable};
-ghost use Rattle.writeback.specs.Trims.{needsTrim, trimOf, trimsTo};
+ghost use Rattle.writeback.specs.Trims.{needsTrim, trimsTo};
 
 // Whether a media write is made: it is wanted, and the budget pays for it after those needed before it.
 fn is_made(wanted: bool, needed: usize, budget: usize) -> bool
@@ -289,47 +289,24 @@ fn needs_trim(media: &[u8], sizes: &[u32], file: usize, n: usize) -> bool
     nonzero_from(media, file, n)
 }
 
-// The size that a file gets: 0 where the files are emptied, or its stored size.
-fn target_size(sizes: &[u32], file: usize, empties: bool) -> usize
-    requires { ⌜ (length (now sizes) ≡ files) × (file < files) ⌝ }
-    ensures { λ r. ⌜ r ≡ cond empties 0 (getD (now (sizes .entry)) file 0) ⌝ }
-{
-    if empties {
-        return 0;
-    }
-    sizes[file] as usize
-}
-
-// One file of a mount or a format: TRIM to the size that it gets, where it needs that.
-fn trim_file(
+// The TRIMs that give each file its size in a list, as many as the budget pays for. The number needed comes back.
+fn trim_files(
     media: &mut [u8],
     sizes: &mut [u32],
-    file: usize,
-    empties: bool,
+    targets: &[u32; media::FILES],
     budget: usize,
-    needed: usize,
 ) -> usize
-    requires { ⌜ (length (now media) ≡ mediaBytes pagesPerFile) × (length (now sizes) ≡ files) × (file < files)
-        × (cond empties 0 (getD (now sizes) file 0) ≤ fileBytes pagesPerFile) × (needed < 2 ^ 32) ⌝ }
-    ensures { λ r. ⌜ Spent pagesPerFile budget (mediaAtEntry media sizes) needed r
-        (trimOf pagesPerFile empties (mediaAtEntry media sizes) file) (mediaAtExit media sizes) ⌝ }
-{
-    let n = target_size(sizes, file, empties);
-    let wanted = needs_trim(media, sizes, file, n);
-    trim_if(media, sizes, file, n, wanted, budget, needed)
-}
-
-// The TRIMs of a mount, or those of a format, which empties the files, as many as the budget pays for. The number needed comes back.
-fn trim_files(media: &mut [u8], sizes: &mut [u32], empties: bool, budget: usize) -> usize
     requires { ⌜ (length (now media) ≡ mediaBytes pagesPerFile) × (length (now sizes) ≡ files)
-        × ((f : ℕ) → f < files → cond empties 0 (getD (now sizes) f 0) ≤ fileBytes pagesPerFile) ⌝ }
+        × ((f : ℕ) → f < files → (getD (now targets) f 0 ≤ getD (now sizes) f 0) × (getD (now targets) f 0 ≤ fileBytes pagesPerFile)) ⌝ }
     ensures { λ r. ⌜ Spent pagesPerFile budget (mediaAtEntry media sizes) 0 r
-        (trimsTo pagesPerFile empties (mediaAtEntry media sizes)) (mediaAtExit media sizes) ⌝ }
+        (trimsTo pagesPerFile (mediaAtEntry media sizes) (now (targets .entry))) (mediaAtExit media sizes) ⌝ }
 {
     let mut needed = 0;
     let mut f = 0;
-    while f < media::FILES {
-        needed = trim_file(media, sizes, f, empties, budget, needed);
+    while f < sizes.len() {
+        let n = targets[f] as usize;
+        let wanted = needs_trim(media, sizes, f, n);
+        needed = trim_if(media, sizes, f, n, wanted, budget, needed);
         f += 1;
     }
     needed
@@ -373,7 +350,7 @@ pub fn mount(media: &mut [u8], sizes: &mut [u32], state: &mut [u8], budget: usiz
         Answer::Refused(refusal) => Answer::Refused(refusal),
         Answer::Done(_) => {
             let found = sizes_array(sizes);
-            let trims = trim_files(media, sizes, false, budget);
+            let trims = trim_files(media, sizes, &found, budget);
             finish(state, trims, budget, admission::mounted_state(found))
         }
     }
@@ -389,7 +366,8 @@ pub fn format(media: &mut [u8], sizes: &mut [u32], state: &mut [u8], budget: usi
     match admitted {
         Answer::Refused(refusal) => Answer::Refused(refusal),
         Answer::Done(_) => {
-            let trims = trim_files(media, sizes, true, budget);
+            let empty = [0u32; media::FILES];
+            let trims = trim_files(media, sizes, &empty, budget);
             finish(state, trims, budget, device::down_state())
         }
     }

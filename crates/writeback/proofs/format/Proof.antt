@@ -9,7 +9,8 @@ use borrow.Author.Needs.{needs}
 use Rattle.answer.specs.declared.Answer.the-variants.{Refused}
 use Rattle.answer.proofs.Coded.{coded-of}
 use Rattle.answer.proofs.Admission.{passed}
-use Rattle.media.specs.Geometry.{pagesPerFile}
+use Rattle.memory.proofs.Bytes.{getD-zeros}
+use Rattle.media.specs.Geometry.{files, pagesPerFile}
 use Rattle.media.specs.Write.{Media, mediaOf}
 use Rattle.device.specs.Admission.{mediaShape}
 use Rattle.device.specs.Mounting.{format}
@@ -46,15 +47,18 @@ enum-told c = search needs
 
 trim-files-requires : tie.Need-trim-files-requires
 trim-files-requires c κs =
-    let t = c .before .before in
+    let t = c .before .before .before in
     let ok = shape-admitted pagesPerFile (deviceIn (came (start t) [])) (all t .1) in
-    (ok .0, ok .1, λ f hf. omega arith)
+    (ok .0, ok .1, λ f hf. rw (getD-zeros files f) (omega arith, omega arith))
 
 down-state-requires : tie.Need-down-state-requires
 down-state-requires c κs = search needs
 
 finish-requires : tie.Need-finish-requires
-finish-requires c κs = all (c .before .before .before .before .before .before .before .before .before) .0
+finish-requires c κs =
+    let w = c .before .before .before .before .before .before in
+    let t = w .before .before .before .before in
+    all t .0
 
 same-length : tie.Need-same-length
 same-length c = search needs
@@ -84,7 +88,7 @@ same-length-5 c = search needs
 returns-2 : tie.Need-returns-2
 returns-2 c =
     let w = c .before .before .before .before .before .before .before .before .before in
-    let t = w .before .before .before in
+    let t = w .before .before .before .before in
     let s = start t in
     λ frames.
     let l = came s frames in

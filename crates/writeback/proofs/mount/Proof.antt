@@ -3,6 +3,7 @@ use mathlib.Core.Path.{_≡_, refl, ap, _∙_}
 use mathlib.Core.Bool.{true}
 use mathlib.Core.List.{List, []}
 use Prim.Native.Nat.{ℕ}
+use native.Mathlib.Omega.{arith}
 use lib.ListN.{length}
 use borrow.Author.Needs.{needs}
 use Rattle.answer.specs.declared.Answer.the-variants.{Refused}
@@ -50,13 +51,20 @@ sizes-array-requires : tie.Need-sizes-array-requires
 sizes-array-requires c κs = ready (c .before) .sizes
 
 trim-files-requires : tie.Need-trim-files-requires
-trim-files-requires c κs = let ok = ready (c .before .before .before .before) in (ok .bytes, ok .sizes, ok .fit)
+trim-files-requires c κs =
+    let z = c .before .before .before in
+    let t = z .before .before in
+    let ok = ready t in
+    (ok .bytes, ok .sizes, λ f hf. rw (z .sizes-array .ensures) (omega arith, ok .fit f hf))
 
 mounted-state-requires : tie.Need-mounted-state-requires
 mounted-state-requires c κs = search needs
 
 finish-requires : tie.Need-finish-requires
-finish-requires c κs = let w = c .before .before .before .before .before .before in all (w .before .before .before .before .before) .0
+finish-requires c κs =
+    let w = c .before .before .before .before .before .before in
+    let t = w .before .before .before .before .before .before in
+    all t .0
 
 same-length : tie.Need-same-length
 same-length c = search needs
@@ -86,7 +94,7 @@ same-length-5 c = search needs
 returns-2 : tie.Need-returns-2
 returns-2 c =
     let w = c .before .before .before .before .before .before .before .before .before in
-    let z = w .before .before .before in
+    let z = w .before .before .before .before in
     let t = z .before .before in
     let s = start t in
     λ frames.
@@ -94,7 +102,7 @@ returns-2 c =
     c .before .before .finish .ensures _ frames
     ∙ rw (c .before .before .before .mounted-state .ensures, z .sizes-array .ensures)
     (ap inBytes
-    (mount-ends pagesPerFile (s .args .budget) (deviceIn l) (w .trim-files .result) _ (w .trim-files .ensures) (all t .1)))
+    (mount-ends pagesPerFile (s .args .budget) (deviceIn l) (w .trim-files .result) _ (rw (z .sizes-array .ensures) at (w .trim-files .ensures)) (all t .1)))
     ∙ length-on (mount pagesPerFile (s .args .budget)) l (all t .0)
 
 pub mount-spec : {M : Type 1} → statement M
