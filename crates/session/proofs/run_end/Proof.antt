@@ -9,6 +9,10 @@ use Rattle.session_run.proofs.Feeding.{block-fed, last-short}
 use Rattle.session.proofs.run_end.Statement.{statement}
 use Rattle.session.proofs.run_end.Tie as tie
 
+-- where the last line has been fed
+abbrev finished : tie.After-next → tie.After-finish
+finished c = c .before .before .before .before .before .before .before .before .before
+
 finish-requires : tie.Need-finish-requires
 finish-requires c κs = search needs
 
@@ -29,9 +33,9 @@ same-length-4 c = search needs
 
 returns : tie.Need-returns
 returns c =
-    let s = c .before .before .before .before .before .before .before .before .before .before .before .before .before .before .before .before .before .before .before in
+    let k = finished (c .before) in
+    let s = k .before .before .before .before .before .before .before .before .before in
     let a = s .args in
-    let k = c .before .before .before .before .before .before .before .before .before .before in
     rw (c .count .ensures)
     (block-fed pagesPerFile (lastEnd (a .session .line)) (deviceOf (mediaOf (a .media .now) (a .sizes .now)) (a .frames .now) (a .session .cache)) _ (a .session .line) _ (a .output .now) _ (k .finish .result .answer) (k .finish .ensures) (omega (arith, s .pre, last-short (a .session .line))))
 
