@@ -7,13 +7,6 @@ use Rattle.session_run.proofs.Feeding.{block-fed}
 use Rattle.session.proofs.run_block.Statement.{statement}
 use Rattle.session.proofs.run_block.Tie as tie
 
--- the start of the call, and where the block has been fed
-abbrev start : tie.After-feed-arg4 → tie.Start
-start c = c .before .before .before .before .before .before .before .before .before
-
-abbrev fed : tie.After-next → tie.After-feed
-fed c = c .before .before .before .before .before .before .before .before .before
-
 feed-requires : tie.Need-feed-requires
 feed-requires c κs = search needs
 
@@ -34,8 +27,10 @@ same-length-4 c = search needs
 
 returns : tie.Need-returns
 returns c =
-    let k = fed (c .before) in
-    let s = start (k .before) in
+    let o = c .before .before .before in
+    let k = o .before .before .before .before .before .before .before in
+    let f = k .before .before .before .before in
+    let s = f .before .before .before .before .before .before in
     let a = s .args in
     rw (c .count .ensures)
     (block-fed pagesPerFile (a .input .now) (deviceOf (mediaOf (a .media .now) (a .sizes .now)) (a .frames .now) (a .session .cache)) _ (a .session .line) _ (a .output .now) _ (k .feed .result .answer) (k .feed .ensures) (s .pre))

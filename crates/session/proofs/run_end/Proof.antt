@@ -9,10 +9,6 @@ use Rattle.session_run.proofs.Feeding.{block-fed, last-short}
 use Rattle.session.proofs.run_end.Statement.{statement}
 use Rattle.session.proofs.run_end.Tie as tie
 
--- where the last line has been fed
-abbrev finished : tie.After-next → tie.After-finish
-finished c = c .before .before .before .before .before .before .before .before .before
-
 finish-requires : tie.Need-finish-requires
 finish-requires c κs = search needs
 
@@ -33,7 +29,8 @@ same-length-4 c = search needs
 
 returns : tie.Need-returns
 returns c =
-    let k = finished (c .before) in
+    let o = c .before .before .before in
+    let k = o .before .before .before .before .before .before .before in
     let s = k .before .before .before .before .before .before .before .before .before in
     let a = s .args in
     rw (c .count .ensures)

@@ -6,10 +6,6 @@ use Rattle.memory.proofs.Bytes.{length-front}
 use Rattle.session.proofs.serve_block.Statement.{statement}
 use Rattle.session.proofs.serve_block.Tie as tie
 
--- where the block has been run
-abbrev ran : tie.After-next → tie.After-run-block
-ran c = c .before .before .before .before .before .before .before .before .before
-
 read-requires : tie.Need-read-requires
 read-requires c κs = search needs
 
@@ -83,7 +79,8 @@ slice-reshare-prefix-write-out-2 c = search needs
 
 slice-aggregate-write-out-2 : tie.Need-slice-aggregate-write-out-2
 slice-aggregate-write-out-2 c =
-    let k = ran (c .before) .run-block in
+    let o = c .before .before .before in
+    let k = o .before .before .before .before .before .before .before .run-block in
     sym (length-front (k .result .count) (k .last .1 .1 .1 .1 .1 .0) (omega (arith, k .ensures .count, k .ensures .fits, k .kept .1 .1 .1 .1 .1 .0)))
 
 write-out-requires-2 : tie.Need-write-out-requires-2

@@ -13,10 +13,6 @@ use Rattle.session_run.proofs.Steps.{kept-line, stepped-end}
 use Rattle.session_run.proofs.end_line.Statement.{statement}
 use Rattle.session_run.proofs.end_line.Tie as tie
 
--- where the line has been run
-abbrev ran : tie.After-state → tie.After-run-line
-ran c = c .before .before .before .before .before .before .before .before .before
-
 -- the bytes of the line, and as many as are kept
 room : (c : tie.After-min) → length (c .before .before .before .before .before .before .args .line .bytes) ≡ keptBytes
 room c = search needs
@@ -53,7 +49,8 @@ same-length-4 c = search needs
 
 returns : tie.Need-returns
 returns c =
-    let k = ran (c .before) in
+    let o = c .before .before .before in
+    let k = o .before .before .before .before .before .before .before in
     let q = k .before .before .before .before .before .before in
     let s = q .before .before .before .before .before .before in
     let a = s .args in

@@ -26,7 +26,7 @@ Inv-loop media₀ sizes₀ frames₀ input output₀ cache₀ line₀ put₀ i�
 abbrev μ-loop : tie.MeasureT-loop
 μ-loop media₀ sizes₀ frames₀ input output₀ cache₀ line₀ put₀ i₀ media sizes frames output cache line put i = length input - i
 
--- the start of the call, the turn's test, and the line that has ended
+-- the start of the call, the turn's test, and where a line has ended
 abbrev start : tie.At-loop Inv-loop μ-loop → tie.Start Inv-loop μ-loop
 start c = c .before .before .before .before .before .before .before .before .before
 

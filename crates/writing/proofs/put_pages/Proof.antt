@@ -23,7 +23,7 @@ Inv-loop media frames₀ state₀ table file position bytes from₀ frames state
 abbrev μ-loop : tie.MeasureT-loop
 μ-loop media frames₀ state₀ table file position bytes from₀ frames state from = length bytes - from
 
--- the start of the call, and the loop's test
+-- the start of the call, and the loop
 abbrev start : tie.At-loop Inv-loop μ-loop → tie.Start Inv-loop μ-loop
 start c = c .before .before .before .before .before
 
