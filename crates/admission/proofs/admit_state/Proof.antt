@@ -16,6 +16,10 @@ use borrow.Author.Needs.{needs}
 use Rattle.admission.proofs.admit_state.Statement.{statement}
 use Rattle.admission.proofs.admit_state.Tie as tie
 
+-- the start of the call
+abbrev start : tie.After-is-sound → tie.Start
+start c = c .before .before .before .before .before
+
 none-cached-requires : tie.Need-none-cached-requires
 none-cached-requires c κs = search needs
 
@@ -38,7 +42,7 @@ returns : tie.Need-returns
 returns c =
     let m = c .before .before .before .before in
     let i = c .before .before .before .before .before .before .before in
-    let a = c .before .before .before .before .before .before .before .before .before .before .before .before .args in
+    let a = start i .args in
     let r = c .before .before .answer .given .0 .0 in (
       rest-sound (a .sizes .now) (a .state .now) (a .file) (a .range) _ _ (sym (i .is-sound .ensures .0) ∙ c .before .before .before .before .before .before .if1 .taken)
           (sym (mark-read (a .state .now) (omega arith))) (coded-of _ _ _ (c .before .before .answer .given .1) (m .admit-mounted .ensures)),
@@ -49,13 +53,13 @@ enum-told : tie.Need-enum-told
 enum-told c = search needs
 
 abbrev tests : tie.After-enum-told → List Test
-tests c = let a = c .before .before .before .before .before .before .before .before .before .before .args in mountedTests (getD (a .state .now) 0 0) (a .file) (a .range)
+tests c = let a = start (c .before .before .before .before .before) .args in mountedTests (getD (a .state .now) 0 0) (a .file) (a .range)
 
 returns-2 : tie.Need-returns-2
 returns-2 c =
     let m = c .before .before in
     let i = c .before .before .before .before .before in
-    let a = c .before .before .before .before .before .before .before .before .before .before .args in (
+    let a = start i .args in (
       rest-sound (a .sizes .now) (a .state .now) (a .file) (a .range) _ _ (sym (i .is-sound .ensures .0) ∙ c .before .before .before .before .if1 .taken)
           (sym (mark-read (a .state .now) (omega arith))) (sym (first-all (tests c) (done 0) (answer-passed (tests c) _ _ refl (m .admit-mounted .ensures) (c .enum-told .given .1)))),
       i .is-sound .ensures .1 (c .before .before .before .before .if1 .taken) ∙ table-done 0 _,
@@ -67,7 +71,7 @@ none-cached-requires-3 c κs = search needs
 returns-3 : tie.Need-returns-3
 returns-3 c =
     let i = c .before .before in
-    let a = c .before .before .before .before .before .before .before .args in (
+    let a = start i .args in (
       rest-unsound (a .sizes .now) (a .state .now) (a .file) (a .range) (sym (i .is-sound .ensures .0) ∙ c .before .if1 .left),
       c .none-cached3 .ensures ∙ table-refused Books (decode (a .state .now) .slots),
     )

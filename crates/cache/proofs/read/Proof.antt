@@ -27,8 +27,9 @@ same-length c = search needs
 
 returns : tie.Need-returns
 returns c =
-    let s = c .before .before .before .before .before .before .before .before .before .before in (
-      (rw (c .before .before .before .before .before .bytes-of .ensures) at (c .before .before .read .ensures))
+    let b = c .before .before .before .before .before in
+    let s = b .before .before .before .before .before in (
+      (rw (b .bytes-of .ensures) at (c .before .before .read .ensures))
           ∙ same-read (mediaOf (s .args .media .now) (s .args .sizes .now)) (s .args .frames .now) (s .args .cache) (shaped s) pagesPerFile (s .args .file) (s .args .position) (s .args .buffer .now),
       refl,
     )

@@ -36,10 +36,12 @@ same-length-2 c = search needs
 
 returns : tie.Need-returns
 returns c =
-    let s = c .before .before .before .before .before .before .before .before .before .before .before .before .before .before .before in
+    let w = c .before .before .before .before .before .before .before in
+    let b = w .before .before .before .before in
+    let s = b .before .before .before .before in
     rw (c .decode .ensures)
     (back-on (mediaOf (s .args .media .now) (s .args .sizes .now)) (s .args .frames .now) (s .args .cache) (shaped s) (sync pagesPerFile (s .args .file) (s .args .budget)) (λ d. sync-shaped pagesPerFile d _ _) _ _ _ _
-    (rw (c .before .before .before .before .before .before .before .before .before .before .before .bytes-of .ensures) at (c .before .before .before .before .before .before .before .sync .ensures)))
+    (rw (b .bytes-of .ensures) at (w .sync .ensures)))
 
 pub sync-spec : {M : Type 1} → statement M
 sync-spec =

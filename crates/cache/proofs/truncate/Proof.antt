@@ -33,11 +33,12 @@ same-length c = search needs
 
 returns : tie.Need-returns
 returns c =
-    let s = c .before .before .before .before .before .before .before .before .before .before .before .before in
     let w = c .before .before .before .before .before in
+    let b = w .before .before .before in
+    let s = b .before .before .before .before in
     rw (c .decode .ensures)
     (back-on (mediaOf (s .args .media .now) (s .args .sizes .now)) (s .args .frames .now) (s .args .cache) (shaped s) (truncate pagesPerFile (s .args .file) (s .args .n)) (λ d. truncate-shaped pagesPerFile d _ _) _ _ _ _
-    (rw (c .before .before .before .before .before .before .before .before .bytes-of .ensures) at (w .truncate .ensures)))
+    (rw (b .bytes-of .ensures) at (w .truncate .ensures)))
 
 pub truncate-spec : {M : Type 1} → statement M
 truncate-spec =

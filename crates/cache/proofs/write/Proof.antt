@@ -33,11 +33,12 @@ same-length c = search needs
 
 returns : tie.Need-returns
 returns c =
-    let s = c .before .before .before .before .before .before .before .before .before .before .before .before .before in
     let w = c .before .before .before .before .before in
+    let b = w .before .before .before in
+    let s = b .before .before .before .before .before in
     rw (c .decode .ensures)
     (back-on (mediaOf (s .args .media .now) (s .args .sizes .now)) (s .args .frames .now) (s .args .cache) (shaped s) (write pagesPerFile (s .args .file) (s .args .position) (s .args .bytes .now)) (λ d. write-shaped pagesPerFile d _ _ _) _ _ _ _
-    (rw (c .before .before .before .before .before .before .before .before .bytes-of .ensures) at (w .write .ensures)))
+    (rw (b .bytes-of .ensures) at (w .write .ensures)))
 
 pub write-spec : {M : Type 1} → statement M
 write-spec =

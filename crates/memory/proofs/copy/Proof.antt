@@ -57,7 +57,7 @@ loop-less c = search needs
 loop-again : tie.Need-loop-again Inv-loop μ-loop
 loop-again c =
     let l = c .before .before .before .before .before .before .before in
-    let a = c .before .before .before .before .before .before .before .before .before .before .before .args in
+    let a = l .before .before .before .before .args in
     let i = l .loop .i in
     let m = c .before .before .before .before .before .min2 .result in
     let next =

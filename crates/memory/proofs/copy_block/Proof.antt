@@ -27,10 +27,11 @@ same-length c = search needs
 
 returns : tie.Need-returns
 returns c =
-    let a = c .before .before .before .before .before .before .before .before .before .before .args in
+    let b = c .before .before .before .before .before .before in
+    let a = b .before .before .before .before .args in
     let d = a .dst .now in
     c .before .before .copy-bytes2 .ensures
-    ∙ ap (λ (t : List ℕ). overwrite d 0 (take (a .n) t)) (c .before .before .before .before .before .before .copy-bytes .ensures)
+    ∙ ap (λ (t : List ℕ). overwrite d 0 (take (a .n) t)) (b .copy-bytes .ensures)
     ∙ ap (λ (t : List ℕ). overwrite d 0 t) (take-overwrite (zeros 4096) (a .src .now) (a .n) (omega (arith, length-replicate {A = ℕ} 4096 0)) (omega arith))
 
 pub copy-block-spec : {M : Type 1} → statement M

@@ -18,6 +18,13 @@ Inv-loop media₀ sizes₀ frames₀ input₀ output₀ session₀ turns₀ medi
 abbrev μ-loop : tie.MeasureT-loop
 μ-loop media₀ sizes₀ frames₀ input₀ output₀ session₀ turns₀ media sizes frames input output session turns = turns
 
+-- the turn's test, and where its block has been served
+abbrev turn : tie.After-serve-block Inv-loop μ-loop → tie.In-loop Inv-loop μ-loop
+turn c = c .before .before .before .before .before .before
+
+abbrev served : tie.After-output Inv-loop μ-loop → tie.After-serve-block Inv-loop μ-loop
+served c = c .before .before .before .before .before .before .before .before .before
+
 -- a turn is left
 left : (q : tie.In-loop Inv-loop μ-loop) → 0 < q .before .loop .turns
 left q = omega arith
@@ -32,62 +39,42 @@ serve-block-requires : tie.Need-serve-block-requires Inv-loop μ-loop
 serve-block-requires c κs = search needs
 
 sub-turns : tie.Need-sub-turns Inv-loop μ-loop
-sub-turns c =
-    omega
-    (arith, left (c .before .before .before .before .before .before .before .before .before .before .before .before .before .before .before .before .before .before))
+sub-turns c = omega (arith, left (turn (served (c .before .before .before))))
 
 loop-less : tie.Need-loop-less Inv-loop μ-loop
-loop-less c =
-    omega
-    (arith, left (c .before .before .before .before .before .before .before .before .before .before .before .before .before .before .before .before .before .before))
+loop-less c = omega (arith, left (turn (served (c .before .before .before))))
 
 loop-again : tie.Need-loop-again Inv-loop μ-loop
 loop-again c =
-    let k = c .before .before .before .before .before .before .before .before .before .before .before .before .serve-block .kept in
-    let l =
-    c .before .before .before .before .before .before .before .before .before .before .before .before .before .before .before .before .before
-    .before .before .loop .inv in
+    let s = served (c .before .before .before) in
+    let k = s .serve-block .kept in
+    let l = turn s .before .loop .inv in
     (k .0 ∙ l .0, k .1 .0 ∙ l .1, k .1 .1 .0 ∙ l .2, k .1 .1 .1 .1 .0 ∙ l .3, k .1 .1 .1 .1 .1 .0 ∙ l .4)
 
 same-length : tie.Need-same-length Inv-loop μ-loop
 same-length c =
-    let k = c .before .before .before .before .before .before .before .before .before .before .before .serve-block .kept in
-    let l =
-    c .before .before .before .before .before .before .before .before .before .before .before .before .before .before .before .before .before
-    .before .loop .inv in
-    k .0 ∙ l .0
+    let s = served (c .before .before) in
+    s .serve-block .kept .0 ∙ turn s .before .loop .inv .0
 
 same-length-2 : tie.Need-same-length-2 Inv-loop μ-loop
 same-length-2 c =
-    let k = c .before .before .before .before .before .before .before .before .before .before .before .serve-block .kept in
-    let l =
-    c .before .before .before .before .before .before .before .before .before .before .before .before .before .before .before .before .before
-    .before .loop .inv in
-    k .1 .0 ∙ l .1
+    let s = served (c .before .before) in
+    s .serve-block .kept .1 .0 ∙ turn s .before .loop .inv .1
 
 same-length-3 : tie.Need-same-length-3 Inv-loop μ-loop
 same-length-3 c =
-    let k = c .before .before .before .before .before .before .before .before .before .before .before .serve-block .kept in
-    let l =
-    c .before .before .before .before .before .before .before .before .before .before .before .before .before .before .before .before .before
-    .before .loop .inv in
-    k .1 .1 .0 ∙ l .2
+    let s = served (c .before .before) in
+    s .serve-block .kept .1 .1 .0 ∙ turn s .before .loop .inv .2
 
 same-length-4 : tie.Need-same-length-4 Inv-loop μ-loop
 same-length-4 c =
-    let k = c .before .before .before .before .before .before .before .before .before .before .before .serve-block .kept in
-    let l =
-    c .before .before .before .before .before .before .before .before .before .before .before .before .before .before .before .before .before
-    .before .loop .inv in
-    k .1 .1 .1 .1 .0 ∙ l .3
+    let s = served (c .before .before) in
+    s .serve-block .kept .1 .1 .1 .1 .0 ∙ turn s .before .loop .inv .3
 
 same-length-5 : tie.Need-same-length-5 Inv-loop μ-loop
 same-length-5 c =
-    let k = c .before .before .before .before .before .before .before .before .before .before .before .serve-block .kept in
-    let l =
-    c .before .before .before .before .before .before .before .before .before .before .before .before .before .before .before .before .before
-    .before .loop .inv in
-    k .1 .1 .1 .1 .1 .0 ∙ l .4
+    let s = served (c .before .before) in
+    s .serve-block .kept .1 .1 .1 .1 .1 .0 ∙ turn s .before .loop .inv .4
 
 returns : tie.Need-returns Inv-loop μ-loop
 returns c = search needs

@@ -27,9 +27,11 @@ same-length-4 c = search needs
 
 returns : tie.Need-returns
 returns c =
-    let s = c .before .before .before .before .before .before .before .before .before .before .before .before .before .before .before .before .before .before .before .before in
+    let o = c .before .before .before in
+    let k = o .before .before .before .before .before .before .before in
+    let f = k .before .before .before .before in
+    let s = f .before .before .before .before .before .before in
     let a = s .args in
-    let k = c .before .before .before .before .before .before .before .before .before .before in
     rw (c .count .ensures)
     (block-fed pagesPerFile (a .input .now) (deviceOf (mediaOf (a .media .now) (a .sizes .now)) (a .frames .now) (a .session .cache)) _ (a .session .line) _ (a .output .now) _ (k .feed .result .answer) (k .feed .ensures) (s .pre))
 

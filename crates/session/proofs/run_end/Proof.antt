@@ -29,9 +29,10 @@ same-length-4 c = search needs
 
 returns : tie.Need-returns
 returns c =
-    let s = c .before .before .before .before .before .before .before .before .before .before .before .before .before .before .before .before .before .before .before in
+    let o = c .before .before .before in
+    let k = o .before .before .before .before .before .before .before in
+    let s = k .before .before .before .before .before .before .before .before .before in
     let a = s .args in
-    let k = c .before .before .before .before .before .before .before .before .before .before in
     rw (c .count .ensures)
     (block-fed pagesPerFile (lastEnd (a .session .line)) (deviceOf (mediaOf (a .media .now) (a .sizes .now)) (a .frames .now) (a .session .cache)) _ (a .session .line) _ (a .output .now) _ (k .finish .result .answer) (k .finish .ensures) (omega (arith, s .pre, last-short (a .session .line))))
 

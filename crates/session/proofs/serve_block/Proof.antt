@@ -79,7 +79,8 @@ slice-reshare-prefix-write-out-2 c = search needs
 
 slice-aggregate-write-out-2 : tie.Need-slice-aggregate-write-out-2
 slice-aggregate-write-out-2 c =
-    let k = c .before .before .before .before .before .before .before .before .before .before .run-block in
+    let o = c .before .before .before in
+    let k = o .before .before .before .before .before .before .before .run-block in
     sym (length-front (k .result .count) (k .last .1 .1 .1 .1 .1 .0) (omega (arith, k .ensures .count, k .ensures .fits, k .kept .1 .1 .1 .1 .1 .0)))
 
 write-out-requires-2 : tie.Need-write-out-requires-2

@@ -42,7 +42,7 @@ request-of-requires c κs = let n = c .before .before in values-fitting _ _ _ _ 
 returns-2 : tie.Need-returns-2
 returns-2 c =
     let n = c .before .before .before in
-    let l = c .before .before .before .before .before .before .before .before .before .before .before .args .line .now in (
+    let l = n .before .before .before .before .before .before .before .before .args .line .now in (
       c .request-of .ensures .0 ∙ parse-fit l (omega arith) (one (n .before .before .before .before)) _ _ (told n) (c .before .before .if3 .taken),
       c .request-of .ensures .1,
     )

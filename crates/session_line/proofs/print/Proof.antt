@@ -10,6 +10,13 @@ use Rattle.session_line.proofs.Reply.{decimal-fits, reply-length, reply
 use Rattle.session_line.proofs.print.Statement.{statement}
 use Rattle.session_line.proofs.print.Tie as tie
 
+-- where the count is known, and the start of the call
+abbrev counted : tie.After-put-decimal → tie.After-count
+counted c = c .before .before .before .before .before .before .before
+
+abbrev start : tie.After-put-decimal → tie.Start
+start c = counted c .before .before .before .before
+
 line-length : (c : tie.After-count) → length (replyLine (coded (c .before .before .before .before .args .answer)) (c .before .before .before .before .args .bytes .now))
     ≡ length (decimal (c .before .number .result)) + length (decimal (c .count .result)) + 2 * length (c .before .before .before .before .args .bytes .now) + 3
 line-length c = rw (c .before .number .ensures, c .count .ensures) (reply-length _ _)
@@ -17,13 +24,13 @@ line-length c = rw (c .before .number .ensures, c .count .ensures) (reply-length
 digits-fit : (c : tie.After-count) → length (decimal (c .before .number .result)) + length (decimal (c .count .result)) ≤ 40
 digits-fit c = omega (arith, decimal-fits (c .before .number .result) (omega arith), decimal-fits (c .count .result) (omega arith))
 
-first-length : (c : tie.After-put-decimal) → length (c .put-decimal .last .0) ≡ length (c .before .before .before .before .before .before .before .before .before .before .before .args .output .now)
+first-length : (c : tie.After-put-decimal) → length (c .put-decimal .last .0) ≡ length (start c .args .output .now)
 first-length c = c .put-decimal .kept .0
 
-second-length : (c : tie.After-put-decimal2) → length (c .put-decimal2 .last .0) ≡ length (c .before .before .before .before .before .before .before .before .before .before .before .before .before .before .before .args .output .now)
+second-length : (c : tie.After-put-decimal2) → length (c .put-decimal2 .last .0) ≡ length (start (c .before .before .before .before) .args .output .now)
 second-length c = c .put-decimal2 .kept .0 ∙ simp length-set (first-length (c .before .before .before .before))
 
-third-length : (c : tie.After-put-hex) → length (c .put-hex .last .0) ≡ length (c .before .before .before .before .before .before .before .before .before .before .before .before .before .before .before .before .before .before .before .args .output .now)
+third-length : (c : tie.After-put-hex) → length (c .put-hex .last .0) ≡ length (start (c .before .before .before .before .before .before .before .before) .args .output .now)
 third-length c = c .put-hex .kept .0 ∙ simp length-set (second-length (c .before .before .before .before))
 
 number-requires : tie.Need-number-requires
@@ -103,13 +110,16 @@ same-length c = simp length-set (third-length (c .before .before))
 
 returns-3 : tie.Need-returns-3
 returns-3 c =
-    let a = c .before .before .before .before .before .before .before .before .before .before .before .before .before .before .before .before .before .before .before .before .before .args in
-    let number = c .before .before .before .before .before .before .before .before .before .before .before .before .before .before .before .before .before .before .number in
-    let count = c .before .before .before .before .before .before .before .before .before .before .before .before .before .before .before .before .before .count in
-    let first = c .before .before .before .before .before .before .before .before .before .before .put-decimal in
-    let second = c .before .before .before .before .before .before .put-decimal2 in
+    let s = c .before .before .before .before .before .before in
+    let f = s .before .before .before .before in
+    let n = f .before .before .before .before .before .before .before in
+    let a = n .before .before .before .before .args in
+    let number = n .before .number in
+    let count = n .count in
+    let first = f .put-decimal in
+    let second = s .put-decimal2 in
     let line = replyLine (coded (a .answer)) (a .bytes .now) in
-    let l = line-length (c .before .before .before .before .before .before .before .before .before .before .before .before .before .before .before .before .before) in
+    let l = line-length n in
     let p = print-fits line (a .output .now) (omega arith) in
     let q : second .result + 1 + 2 * length (a .bytes .now) + 1 ≡ length line = omega arith in (
       ap done q ∙ sym (p .0),

@@ -49,8 +49,9 @@ same-length-4 c = search needs
 
 returns : tie.Need-returns
 returns c =
-    let q = c .before .before .before .before .before .before .before .before .before .before .before .before .before .before .before .before in
-    let k = c .before .before .before .before .before .before .before .before .before .before in
+    let o = c .before .before .before in
+    let k = o .before .before .before .before .before .before .before in
+    let q = k .before .before .before .before .before .before in
     let s = q .before .before .before .before .before .before in
     let a = s .args in
     stepped-end pagesPerFile (deviceOf (mediaOf (a .media .now) (a .sizes .now)) (a .frames .now) (a .cache)) (a .line) _ (a .output .now) _ _

@@ -84,8 +84,9 @@ same-length-2 c = search needs
 returns : tie.Need-returns
 unfolding run
 returns c =
-    let a = c .before .before .before .before .before .before .before .before .before .before .before .before .before .before .args in
-    made-prints-none (a .request) _ (c .before .before .before .before .before .before .before .before .before .request .given .1) pagesPerFile
+    let q = c .before .before .before .before .before .before .before .before .before in
+    let a = q .before .before .before .before .before .args in
+    made-prints-none (a .request) _ (q .request .given .1) pagesPerFile
     (deviceOf (mediaOf (a .media .now) (a .sizes .now)) (a .frames .now) (a .cache)) _ _ _ _ _ _ _ _ _ refl
     (c .before .before .before .before .before .format .ensures (a .frames .now)) (c .prints-none .ensures)
 
@@ -98,8 +99,9 @@ same-length-4 c = search needs
 returns-2 : tie.Need-returns-2
 unfolding run
 returns-2 c =
-    let a = c .before .before .before .before .before .before .before .before .before .before .before .before .before .before .args in
-    made-prints-none (a .request) _ (c .before .before .before .before .before .before .before .before .before .request2 .given .1) pagesPerFile
+    let q = c .before .before .before .before .before .before .before .before .before in
+    let a = q .before .before .before .before .before .args in
+    made-prints-none (a .request) _ (q .request2 .given .1) pagesPerFile
     (deviceOf (mediaOf (a .media .now) (a .sizes .now)) (a .frames .now) (a .cache)) _ _ _ _ _ _ _ _ _ refl
     (c .before .before .before .before .before .mount .ensures (a .frames .now)) (c .prints-none2 .ensures)
 
@@ -115,8 +117,9 @@ same-length-7 c = search needs
 returns-3 : tie.Need-returns-3
 unfolding run
 returns-3 c =
-    let a = c .before .before .before .before .before .before .before .before .before .before .before .before .before .args in
-    made-prints-none (a .request) _ (c .before .before .before .before .before .before .before .before .request3 .given .1) pagesPerFile
+    let q = c .before .before .before .before .before .before .before .before in
+    let a = q .before .before .before .before .before .args in
+    made-prints-none (a .request) _ (q .request3 .given .1) pagesPerFile
     (deviceOf (mediaOf (a .media .now) (a .sizes .now)) (a .frames .now) (a .cache)) _ _ _ _ _ _ _ _ _ refl
     (c .before .before .before .write-bytes .ensures) (c .prints-none3 .ensures)
 
@@ -132,8 +135,9 @@ same-length-10 c = search needs
 returns-4 : tie.Need-returns-4
 unfolding run
 returns-4 c =
-    let a = c .before .before .before .before .before .before .before .before .before .before .before .before .before .args in
-    made-prints-none (a .request) _ (c .before .before .before .before .before .before .before .before .request4 .given .1) pagesPerFile
+    let q = c .before .before .before .before .before .before .before .before in
+    let a = q .before .before .before .before .before .args in
+    made-prints-none (a .request) _ (q .request4 .given .1) pagesPerFile
     (deviceOf (mediaOf (a .media .now) (a .sizes .now)) (a .frames .now) (a .cache)) _ _ _ _ _ _ _ _ _ refl
     (c .before .before .before .truncate .ensures) (c .prints-none4 .ensures)
 
@@ -149,10 +153,12 @@ same-length-13 c = search needs
 returns-5 : tie.Need-returns-5
 unfolding run
 returns-5 c =
-    let a = c .before .before .before .before .before .before .before .before .before .before .before .before .before .before .before .args in
-    made-prints-none (a .request) _ (c .before .before .before .before .before .before .before .before .before .before .request5 .given .1) pagesPerFile
+    let s = c .before .before .before .before .before in
+    let q = s .before .before .before .before .before in
+    let a = q .before .before .before .before .before .args in
+    made-prints-none (a .request) _ (q .request5 .given .1) pagesPerFile
     (deviceOf (mediaOf (a .media .now) (a .sizes .now)) (a .frames .now) (a .cache)) _ _ _ _ _ _ _ _ _ refl
-    (c .before .before .before .before .before .sync .ensures) (c .prints-none5 .ensures)
+    (s .sync .ensures) (c .prints-none5 .ensures)
 
 same-length-14 : tie.Need-same-length-14
 same-length-14 c = search needs
@@ -166,14 +172,15 @@ same-length-16 c = search needs
 returns-6 : tie.Need-returns-6
 unfolding run
 returns-6 c =
-    let a = c .before .before .before .before .before .before .before .before .before .before .args in
-    let q = c .before .before .before .before .before .request6 .given .1 in
+    let r = c .before .before .before .before .before in
+    let a = r .before .before .before .before .before .args in
+    let q = r .request6 .given .1 in
     let e = c .read-bytes .ensures in
     made-read (a .request) _ q pagesPerFile (deviceOf (mediaOf (a .media .now) (a .sizes .now)) (a .frames .now) (a .cache))
     (mediaOf (a .media .now) (a .sizes .now)) (a .frames .now) (c .read-bytes .result .answer) (c .read-bytes .result .reads)
     (c .read-bytes .result .bytes) (c .read-bytes .result .cache) _ _ _ refl
     (ap (deviceOf (mediaOf (a .media .now) (a .sizes .now)) (a .frames .now)) (sym (e .1)))
-    (within-of _ _ q (c .before .before .before .before .before .before .before .before .before .before .pre)) (e .0) (e .2)
+    (within-of _ _ q (r .before .before .before .before .before .pre)) (e .0) (e .2)
 
 returns-7 : tie.Need-returns-7
 unfolding run

@@ -26,14 +26,24 @@ Inv-loop media₀ sizes₀ frames₀ input output₀ cache₀ line₀ put₀ i�
 abbrev μ-loop : tie.MeasureT-loop
 μ-loop media₀ sizes₀ frames₀ input output₀ cache₀ line₀ put₀ i₀ media sizes frames output cache line put i = length input - i
 
+-- the start of the call, the turn's test, and where a line has ended
+abbrev start : tie.At-loop Inv-loop μ-loop → tie.Start Inv-loop μ-loop
+start c = c .before .before .before .before .before .before .before .before .before
+
+abbrev turn : tie.After-end-line Inv-loop μ-loop → tie.In-loop Inv-loop μ-loop
+turn c = c .before .before .before .before .before .before .before
+
+abbrev ended : tie.After-slice-known8 Inv-loop μ-loop → tie.After-end-line Inv-loop μ-loop
+ended c = c .before .before .before .before .before .before .before .before
+
 -- in a turn: there is a byte, and room for a line
-more : (q : tie.In-loop Inv-loop μ-loop) → q .before .loop .i < length (q .before .before .before .before .before .before .before .before .before .before .args .input .now)
+more : (q : tie.In-loop Inv-loop μ-loop) → q .before .loop .i < length (start (q .before) .args .input .now)
 more q = omega arith
 
 room : (q : tie.In-loop Inv-loop μ-loop) → q .before .loop .put + replyBytes ≤ length (q .before .loop .output)
 room q =
     let l = q .before in
-    let a = q .before .before .before .before .before .before .before .before .before .before .args in
+    let a = start l .args in
     fed-room pagesPerFile (a .input .now) (deviceOf (mediaOf (a .media .now) (a .sizes .now)) (a .frames .now) (a .session .cache)) (a .session .line) (a .output .now)
     (l .loop .i) _ _ (l .loop .output) (l .loop .put) (l .loop .inv .0) (more q) (omega arith) (l .loop .inv .4)
 
@@ -80,30 +90,29 @@ end-line-requires c κs =
 
 add-put : tie.Need-add-put Inv-loop μ-loop
 add-put c =
-    let k = c .before .before .before .before .before .before .before .before .before .before .end-line .ensures in
-    let s = small (c .before .before .before .before .before .before .before .before .before .before .before .before .before .before .before .before .before) in
+    let e = ended (c .before .before) in
+    let k = e .end-line .ensures in
+    let s = small (turn e) in
     omega (arith, s .1, k .count, k .fits)
 
 add-i : tie.Need-add-i Inv-loop μ-loop
 add-i c =
-    let s = small (c .before .before .before .before .before .before .before .before .before .before .before .before .before .before .before .before .before) in
+    let s = small (turn (ended (c .before .before))) in
     omega (arith, s .0)
 
 loop-less : tie.Need-loop-less Inv-loop μ-loop
-loop-less c =
-    omega
-    (arith, more (c .before .before .before .before .before .before .before .before .before .before .before .before .before .before .before .before .before))
+loop-less c = omega (arith, more (turn (ended (c .before .before))))
 
 loop-again : tie.Need-loop-again Inv-loop μ-loop
 unfolding restarted
 loop-again c =
-    let q = c .before .before .before .before .before .before .before .before .before .before .before .before .before .before .before .before .before in
+    let k = ended (c .before .before) in
+    let q = turn k in
     let l = q .before in
-    let a = q .before .before .before .before .before .before .before .before .before .before .args in
-    let k = c .before .before .before .before .before .before .before .before .before .before in
+    let a = start l .args in
     let o = l .loop .output in
     let p = l .loop .put in (
-      fed-line pagesPerFile (a .input .now) (deviceOf (mediaOf (a .media .now) (a .sizes .now)) (a .frames .now) (a .session .cache)) (a .session .line) (a .output .now) (l .loop .i) _ _ (l .loop .line) o _ p _ (p + 70) (l .loop .inv .0) (more q) (c .before .before .before .before .before .before .before .before .before .before .before .before .before .before .before .if2 .taken) refl (room q) (k .end-line .ensures),
+      fed-line pagesPerFile (a .input .now) (deviceOf (mediaOf (a .media .now) (a .sizes .now)) (a .frames .now) (a .session .cache)) (a .session .line) (a .output .now) (l .loop .i) _ _ (l .loop .line) o _ p _ (p + 70) (l .loop .inv .0) (more q) (k .before .before .before .before .before .if2 .taken) refl (room q) (k .end-line .ensures),
       k .end-line .kept .0 ∙ l .loop .inv .1,
       k .end-line .kept .1 .0 ∙ l .loop .inv .2,
       k .end-line .kept .1 .1 .0 ∙ l .loop .inv .3,
@@ -125,7 +134,7 @@ loop-again-2 : tie.Need-loop-again-2 Inv-loop μ-loop
 loop-again-2 c =
     let q = c .before .before .before in
     let l = q .before in
-    let a = q .before .before .before .before .before .before .before .before .before .before .args in (
+    let a = start l .args in (
       rw (c .push .ensures) (fed-on pagesPerFile (a .input .now) (deviceOf (mediaOf (a .media .now) (a .sizes .now)) (a .frames .now) (a .session .cache)) (a .session .line) (a .output .now) (l .loop .i) _ (l .loop .line) (l .loop .output) (l .loop .put) (l .loop .inv .0) (more q) (c .before .if2 .left)),
       l .loop .inv .1,
       l .loop .inv .2,
@@ -149,7 +158,7 @@ same-length-4 c = c .before .loop .inv .4
 returns-2 : tie.Need-returns-2 Inv-loop μ-loop
 returns-2 c =
     let l = c .before in
-    let a = l .before .before .before .before .before .before .before .before .before .args in
+    let a = start l .args in
     let s = l .loop .inv .0 in
     let k : l .loop .put ≤ length (a .output .now) = omega (arith, s .count, s .fits, l .loop .inv .5) in (
       fed-all pagesPerFile (a .input .now) (deviceOf (mediaOf (a .media .now) (a .sizes .now)) (a .frames .now) (a .session .cache)) (a .session .line) (a .output .now) (l .loop .i) _ _ _ _ s (omega arith) (omega arith),

@@ -36,10 +36,10 @@ same-length-4 c = search needs
 
 returns : tie.Need-returns
 returns c =
-    let p = c .before .before .before .before .before .before .before .before .before .before .before .before .before .before .before .before .before .before .before .before .args .session .line in
-    let n = c .before .before .before .before .before .before .before .before .before .before .before .before .before .before .min in
-    let f = c .before .before .before .before .before .before .before .before .feed .ensures in
-    (rw (last-end p (n .result) (n .ensures)) at (f .0), f .1)
+    let f = c .before .before .before .before .before .before .before .before in
+    let n = f .before .before .before .before .before .before in
+    let p = n .before .before .before .before .before .before .args .session .line in
+    (rw (last-end p (n .min .result) (n .min .ensures)) at (f .feed .ensures .0), f .feed .ensures .1)
 
 pub finish-spec : {M : Type 1} → statement M
 finish-spec =

@@ -20,14 +20,18 @@ use Rattle.session_run.proofs.Steps.{shown-few, text-fits, run-ends}
 use Rattle.session_run.proofs.run_line.Statement.{statement}
 use Rattle.session_run.proofs.run_line.Tie as tie
 
+-- where the request has been executed
+abbrev executed : tie.After-shown → tie.After-execute
+executed c = c .before .before .before .before .before .before .before .before .before
+
 -- how many bytes are printed
-shown-is : (c : tie.After-shown) → c .shown .result ≡ cond (c .before .before .before .before .before .before .before .before .before .execute .result .reads) (coded (c .before .before .before .before .before .before .before .before .before .execute .result .answer) .count) 0
+shown-is : (c : tie.After-shown) → c .shown .result ≡ cond (executed c .execute .result .reads) (coded (executed c .execute .result .answer) .count) 0
 shown-is c = rw (c .before .count .ensures) at (c .shown .ensures)
 
-few : (c : tie.After-shown) → c .shown .result ≤ length (c .before .before .before .before .before .before .before .before .before .execute .result .bytes)
+few : (c : tie.After-shown) → c .shown .result ≤ length (executed c .execute .result .bytes)
 few c =
-    let n : length (c .before .before .before .before .before .before .before .before .before .execute .result .bytes) ≡ greatestRead = search needs in
-    omega (arith, n, shown-is c, shown-few _ _ _ _ _ (c .before .before .before .before .before .before .before .before .before .execute .ensures))
+    let n : length (executed c .execute .result .bytes) ≡ greatestRead = search needs in
+    omega (arith, n, shown-is c, shown-few _ _ _ _ _ (executed c .execute .ensures))
 
 parse-requires : tie.Need-parse-requires
 parse-requires c κs = search needs
@@ -66,16 +70,15 @@ returns : tie.Need-returns
 unfolding runLine
 returns c =
     let q = c .before .before .before .before .before .before in
-    let k = c .before .before .before .before .before .before .before .before .before .before .before .before .before .before .before in
-    let a =
-    c .before .before .before .before .before .before .before .before .before .before .before .before .before .before .before .before .before
-    .before .before .before .before .before .before .before .before .before .args in
+    let k = executed q in
+    let e = k .before .before .before .before in
+    let a = e .before .before .before .before .before .before .before .args in
     let d = deviceOf (mediaOf (a .media .now) (a .sizes .now)) (a .frames .now) (a .cache) in
     let p = c .before .before .before .print .ensures in
     let w : coded (k .execute .result .answer) .count < 2 ^ 64 = omega (arith, q .before .count .ensures) in
     let f = text-fits _ (k .execute .result .answer) (k .execute .result .reads) (k .execute .result .bytes) _ (k .execute .ensures) w in (
       rw (p .0, p .1, shown-is q)
-          (run-ends pagesPerFile (a .line .now) (a .output .now) d (coded (k .execute .result .answer)) _ _ (omega arith) (rw (k .before .before .before .before .parse .ensures .0) at (k .execute .ensures .ran)) f),
+          (run-ends pagesPerFile (a .line .now) (a .output .now) d (coded (k .execute .result .answer)) _ _ (omega arith) (rw (e .parse .ensures .0) at (k .execute .ensures .ran)) f),
       rw (p .0) (omega (arith, print-count (replyLine (coded (k .execute .result .answer)) (take (q .shown .result) (k .execute .result .bytes))) (a .output .now))),
     )
 

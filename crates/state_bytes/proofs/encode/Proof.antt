@@ -11,6 +11,13 @@ use Rattle.state_bytes.proofs.Encoding.{length-marked, laid}
 use Rattle.state_bytes.proofs.encode.Statement.{statement}
 use Rattle.state_bytes.proofs.encode.Tie as tie
 
+-- the start of the call, and where the slots have been put
+abbrev start : tie.After-put-slots → tie.Start
+start c = c .before .before .before .before .before .before .before
+
+abbrev put : tie.After-slice-known3 → tie.After-put-slots
+put c = c .before .before .before .before .before .before
+
 slice-write-state : tie.Need-slice-write-state
 slice-write-state c = search needs
 
@@ -20,30 +27,30 @@ put-slots-requires c κs = search needs
 put-sizes-requires : tie.Need-put-sizes-requires
 put-sizes-requires c κs =
     let k = c .before .before .before .put-slots .kept .0 in
-    let a = c .before .before .before .before .before .before .before .before .before .before .args in
+    let a = start (c .before .before .before) .args in
     (k ∙ length-marked (a .state .now) (a .cache .mounted) (omega arith), omega arith)
 
 put-sizes-requires-2 : tie.Need-put-sizes-requires-2
 put-sizes-requires-2 c κs =
     let k = c .before .before .before .put-sizes .kept .0 in
     let j = c .before .before .before .before .before .before .before .put-slots .kept .0 in
-    let a = c .before .before .before .before .before .before .before .before .before .before .before .before .before .before .args in
+    let a = start (c .before .before .before .before .before .before .before) .args in
     (k ∙ (j ∙ length-marked (a .state .now) (a .cache .mounted) (omega arith)), omega arith)
 
 same-length : tie.Need-same-length
 same-length c =
     let l = c .before .before .put-sizes2 .kept .0 in
     let k = c .before .before .before .before .before .before .put-sizes .kept .0 in
-    let j = c .before .before .before .before .before .before .before .before .before .before .put-slots .kept .0 in
-    let a = c .before .before .before .before .before .before .before .before .before .before .before .before .before .before .before .before .before .args in
+    let j = put (c .before .before .before .before) .put-slots .kept .0 in
+    let a = start (put (c .before .before .before .before)) .args in
     l ∙ (k ∙ (j ∙ length-set (a .state .now) 0 (a .cache .mounted)))
 
 returns : tie.Need-returns
 returns c =
     let x = c .before .before .put-sizes2 .ensures in
     let y = c .before .before .before .before .before .before .put-sizes .ensures in
-    let z = c .before .before .before .before .before .before .before .before .before .before .put-slots .ensures in
-    let a = c .before .before .before .before .before .before .before .before .before .before .before .before .before .before .before .before .before .args in
+    let z = put (c .before .before .before .before) .put-slots .ensures in
+    let a = start (put (c .before .before .before .before)) .args in
     laid (a .cache) (a .state .now) _ _ _ (omega arith) (search (needs, length-mapped)) (search needs) (search needs) z y x
 
 returns-2 : tie.Need-returns-2

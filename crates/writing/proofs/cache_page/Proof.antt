@@ -66,9 +66,10 @@ same-length-2 c = search needs
 returns : tie.Need-returns
 unfolding fileStart filledPage cachePage
 returns c =
-    let s = c .before .before .before .before .before .before .before .before .before .before .before .before .before .before .before in
-    let x = slot-changed (s .args .state .now) (s .pre .7) (are-bytes _ (c .before .before .before .before .before .before .before .before .before .before .before .before .slice-known2 .given)) _ _ _ (c .before .before .set-slot .ensures) in
-    λ stored. rw (x, c .before .before .before .before .before .before .fill-frame .ensures, c .before .before .before .before .before .before .before .before .min .ensures, c .before .before .before .before .before .before .before .before .before .saturating-sub .ensures, c .before .before .before .before .before .before .before .before .before .before .floor-at .ensures, ← (s .pre .6))
+    let f = c .before .before .before .before .before .before in
+    let s = f .before .before .before .before .before .before .before .before .before in
+    let x = slot-changed (s .args .state .now) (s .pre .7) (are-bytes _ (f .before .before .before .before .before .before .slice-known2 .given)) _ _ _ (c .before .before .set-slot .ensures) in
+    λ stored. rw (x, f .fill-frame .ensures, f .before .before .min .ensures, f .before .before .before .saturating-sub .ensures, f .before .before .before .before .floor-at .ensures, ← (s .pre .6))
 
 pub cache-page-spec : {M : Type 1} → statement M
 cache-page-spec =

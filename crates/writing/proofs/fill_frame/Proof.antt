@@ -38,9 +38,10 @@ same-length c = search needs
 
 returns : tie.Need-returns
 returns c =
-    let a = c .before .before .before .before .before .before .before .before .before .before .args in
+    let f = c .before .before .before .before .before in
+    let a = f .before .before .before .before .before .args in
     let e : a .from + 256 - a .from ≡ a .count = omega arith in
-    c .before .before .patch-frames .ensures ∙ ap (overwrite (a .frames .now) (frameStart (a .k))) (rw e at (c .before .before .before .before .before .filled-page .ensures))
+    c .before .before .patch-frames .ensures ∙ ap (overwrite (a .frames .now) (frameStart (a .k))) (rw e at (f .filled-page .ensures))
 
 mul-patch-frames-2 : tie.Need-mul-patch-frames-2
 mul-patch-frames-2 c = search needs
@@ -86,9 +87,10 @@ same-length-3 c = search needs
 
 returns-3 : tie.Need-returns-3
 returns-3 c =
-    let a = c .before .before .before .before .before .before .before .before .before .before .before .args in
+    let f = c .before .before .before .before .before in
+    let a = f .before .before .before .before .before .before .args in
     let e : a .from + a .count - a .from ≡ a .count = omega arith in
-    c .before .before .put-frame .ensures ∙ ap (overwrite (a .frames .now) (frameStart (a .k))) (rw e at (c .before .before .before .before .before .filled-page2 .ensures))
+    c .before .before .put-frame .ensures ∙ ap (overwrite (a .frames .now) (frameStart (a .k))) (rw e at (f .filled-page2 .ensures))
 
 pub fill-frame-spec : {M : Type 1} → statement M
 fill-frame-spec =

@@ -43,12 +43,13 @@ same-length c = search needs
 
 returns : tie.Need-returns
 returns c =
-    let a = c .before .before .before .before .before .before .before .before .before .before .before .before .args in
+    let f = c .before .before .before .before .before .before .before in
+    let a = f .before .before .before .before .before .args in
     let p = a .page .now in
     let l : length (take 128 p) ≡ 128 = length-front 128 p (omega arith) in
     let e : part p 128 (length p - 128) ≡ drop 128 p = take-all (length p - 128) (drop 128 p) (rw length-drop (omega arith)) in
     c .before .before .patch-frames2 .ensures
-    ∙ ap (λ (t : List ℕ). overwrite t (frameStart (a .k) + 128) (part p 128 (length p - 128))) (c .before .before .before .before .before .before .before .patch-frames .ensures)
+    ∙ ap (λ (t : List ℕ). overwrite t (frameStart (a .k) + 128) (part p 128 (length p - 128))) (f .patch-frames .ensures)
     ∙ rw e (sym (rw (l, take-append-drop) at (overwrite-join-at (a .frames .now) (frameStart (a .k)) (take 128 p) (drop 128 p))))
 
 pub put-frame-spec : {M : Type 1} → statement M

@@ -13,6 +13,10 @@ use borrow.Author.Needs.{needs}
 use Rattle.writing.proofs.put_page.Statement.{statement}
 use Rattle.writing.proofs.put_page.Tie as tie
 
+-- the start of the call
+abbrev start : tie.After-first-free → tie.Start
+start c = c .before .before .before .before .before .before .before
+
 mul-patch-frames : tie.Need-mul-patch-frames
 mul-patch-frames c = search needs
 
@@ -58,9 +62,9 @@ same-length-3 c = search needs
 
 returns-2 : tie.Need-returns-2
 returns-2 c =
-    let s = c .before .before .before .before .before .before .before .before .before .before .before .before .before .before .before .before .before .before .before in
     let k = c .before .before .before .before .before .before .before .before in
-    let f = c .before .before .before .before .before .before .before .before .before .before .before .before in
+    let f = k .before .before .before .before in
+    let s = start f in
     let a = s .args in
     let none : slotCount ≤ firstIndex (holds (a .file) (a .page)) (decode (a .state .now) .slots) = omega (arith, s .pre .6) in (
       slot-free (decode (a .state .now)) (a .file) (a .page) _ (s .pre .6) (omega arith) _ (f .first-free .ensures) (omega arith),
@@ -76,7 +80,7 @@ same-length-4 c = search needs
 
 returns-3 : tie.Need-returns-3
 returns-3 c =
-    let s = c .before .before .before .before .before .before .before .before in
+    let s = start (c .before) in
     let a = s .args in
     (slot-none (decode (a .state .now)) (a .file) (a .page) _ (s .pre .6) (omega arith) _ (c .before .first-free .ensures) (omega arith), λ stored. refl)
 

@@ -23,6 +23,13 @@ Inv-loop media frames₀ state₀ table file position bytes from₀ frames state
 abbrev μ-loop : tie.MeasureT-loop
 μ-loop media frames₀ state₀ table file position bytes from₀ frames state from = length bytes - from
 
+-- the start of the call, and the loop
+abbrev start : tie.At-loop Inv-loop μ-loop → tie.Start Inv-loop μ-loop
+start c = c .before .before .before .before .before
+
+abbrev looped : tie.After-put-page Inv-loop μ-loop → tie.At-loop Inv-loop μ-loop
+looped c = c .before .before .before .before .before .before .before
+
 loop-holds : tie.Need-loop-holds Inv-loop μ-loop
 loop-holds c =
     let s = c .before .before .before .before in
@@ -69,9 +76,9 @@ loop-less c = omega arith
 loop-again : tie.Need-loop-again Inv-loop μ-loop
 loop-again c =
     let p = c .before .before .before .before .before in
-    let n = c .before .before .before .before .before .before .before .before .before .before in
-    let l = c .before .before .before .before .before .before .before .before .before .before .before .before in
-    let a = c .before .before .before .before .before .before .before .before .before .before .before .before .before .before .before .before .before .args in
+    let n = p .before .before .before .before .before in
+    let l = looped p in
+    let a = start l .args in
     let has = sym (p .put-page .ensures .0) ∙ c .if1 .taken in (
       λ stored. rest-next (l .loop .inv .0 stored) (n .min .result) _ (omega arith) (omega arith) has (omega arith) (taken-yes _ _ _ _ (p .put-page .ensures .1 stored) (c .if1 .taken)),
       omega arith,
@@ -85,12 +92,12 @@ same-length : tie.Need-same-length Inv-loop μ-loop
 same-length c = search needs
 
 same-length-2 : tie.Need-same-length-2 Inv-loop μ-loop
-same-length-2 c = omega (arith, c .before .before .before .before .before .put-page .kept .1 .1 .0, c .before .before .before .before .before .before .before .before .before .before .before .before .loop .inv .4)
+same-length-2 c = omega (arith, c .before .before .before .before .before .put-page .kept .1 .1 .0, looped (c .before .before .before .before .before) .loop .inv .4)
 
 returns : tie.Need-returns Inv-loop μ-loop
 returns c =
     let p = c .before .before .before .before .before in
-    let l = c .before .before .before .before .before .before .before .before .before .before .before .before in
+    let l = looped p in
     λ stored. rest-stop (l .loop .inv .0 stored) _ (sym (p .put-page .ensures .0) ∙ c .if1 .left) (taken-no _ _ _ _ (p .put-page .ensures .1 stored) (c .if1 .left))
 
 same-length-3 : tie.Need-same-length-3 Inv-loop μ-loop

@@ -40,18 +40,22 @@ range c = leb (c .args .n) (fileBytes pagesPerFile)
 abbrev call : tie.Start → Device → Result Device
 call c = truncate pagesPerFile (c .args .file) (c .args .n)
 
+-- the start of the call
+abbrev start : tie.After-admit → tie.Start
+start c = c .before .before .before .before .before .before .before
+
 -- what `admit` has tested
-ready : (c : tie.After-enum-told) → let s = c .before .before .before .before .before .before .before .before .before in Admitted pagesPerFile (device s) (s .args .file) (range s)
-ready c = let s = c .before .before .before .before .before .before .before .before .before in borrowed-ready pagesPerFile (came s) _ (range s) (c .before .before .admit .result) (c .before .before .admit .ensures .0 _ _ refl refl) _ (c .enum-told .given .1)
+ready : (c : tie.After-enum-told) → let s = start (c .before .before) in Admitted pagesPerFile (device s) (s .args .file) (range s)
+ready c = let s = start (c .before .before) in borrowed-ready pagesPerFile (came s) _ (range s) (c .before .before .admit .result) (c .before .before .admit .ensures .0 _ _ refl refl) _ (c .enum-told .given .1)
 
-all : (c : tie.After-enum-told) → let s = c .before .before .before .before .before .before .before .before .before in
+all : (c : tie.After-enum-told) → let s = start (c .before .before) in
     (length (s .args .state .now) ≡ stateBytes) × (passed (fileTests pagesPerFile (device s) (s .args .file) (range s)) ≡ true)
-all c = let s = c .before .before .before .before .before .before .before .before .before in borrowed-passed pagesPerFile (came s) _ (range s) (c .before .before .admit .result) (c .before .before .admit .ensures .0 _ _ refl refl) _ (c .enum-told .given .1)
+all c = let s = start (c .before .before) in borrowed-passed pagesPerFile (came s) _ (range s) (c .before .before .admit .result) (c .before .before .admit .ensures .0 _ _ refl refl) _ (c .enum-told .given .1)
 
-in-limits : (c : tie.After-enum-told) → c .before .before .before .before .before .before .before .before .before .args .n ≤ fileBytes pagesPerFile
+in-limits : (c : tie.After-enum-told) → start (c .before .before) .args .n ≤ fileBytes pagesPerFile
 in-limits c = leb-true _ _ (ready c .in-range)
 
-table : (c : tie.After-enum-told) → c .before .before .admit .last .1 .1 .1 .1 .1 .1 .0 ≡ slotTable pagesPerFile (decode (c .before .before .before .before .before .before .before .before .before .args .state .now) .slots)
+table : (c : tie.After-enum-told) → c .before .before .admit .last .1 .1 .1 .1 .1 .1 .0 ≡ slotTable pagesPerFile (decode (start (c .before .before) .args .state .now) .slots)
 table c = table-is _ _ _ _ (c .enum-told .given .1) (c .before .before .admit .ensures .1)
 
 mul-greatest : tie.Need-mul-greatest
@@ -81,10 +85,10 @@ same-length c = search needs
 returns : tie.Need-returns
 returns c =
     let b = c .before .before .before in
-    let s = c .before .before .before .before .before .before .before .before .before .before in
+    let s = start b in
     let x = c .before .admitted .given .0 .0 in
     let r = borrowed-refused pagesPerFile (came s) (s .args .file) (range s) (b .admit .result) (b .admit .ensures .0 _ _ refl refl) x (c .before .admitted .given .1) in
-    refused-on (call s) (came s) _ x r (are-bytes _ (c .before .before .before .before .before .before .slice-known2 .given)) (truncate-refused pagesPerFile (s .args .file) (s .args .n) (device s) x)
+    refused-on (call s) (came s) _ x r (are-bytes _ (b .before .before .before .slice-known2 .given)) (truncate-refused pagesPerFile (s .args .file) (s .args .n) (device s) x)
 
 same-length-2 : tie.Need-same-length-2
 same-length-2 c = search needs
@@ -95,10 +99,10 @@ same-length-3 c = search needs
 returns-2 : tie.Need-returns-2
 unfolding withSizes
 returns-2 c =
-    let t = c .before .before .before .before .before .before .before .before .before .before in
-    let s = c .before .before .before .before .before .before .before .before .before .before .before .before .before .before .before .before .before .before .before in
-    let a = s .args in
     let u = c .before .before .before .before .before .before .before .before in
+    let t = u .before .before in
+    let s = start (t .before .before) in
+    let a = s .args in
     let k = c .before .before .before .tail-slot .ensures (decode (a .state .now)) (shaped (a .state .now) .slots) (table t) in
     bytes-on (call s) (came s) (all t .0) _ _ _ _ (omega (arith, all t .0, u .truncate-state .kept .0)) (are-bytes _ (c .before .before .before .before .before .before .slice-known3 .given))
     (truncate-done pagesPerFile (a .file) (a .n) (device s) _ _ (all t .1) (u .truncate-state .ensures) (c .before .before .clear-tail .ensures (a .media .now) (a .sizes .now) _ (a .file) (k ∙ sym (ap (λ (x : CacheState). firstIndex (holds (a .file) (a .n / pageBytes)) (x .slots)) (u .truncate-state .ensures)))))

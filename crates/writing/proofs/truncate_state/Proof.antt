@@ -9,6 +9,10 @@ use borrow.Author.Needs.{needs}
 use Rattle.writing.proofs.truncate_state.Statement.{statement}
 use Rattle.writing.proofs.truncate_state.Tie as tie
 
+-- the start of the call
+abbrev start : tie.After-free-pages-from → tie.Start
+start c = c .before .before .before .before .before .before .before .before
+
 logical-at-requires : tie.Need-logical-at-requires
 logical-at-requires c κs = search needs
 
@@ -35,14 +39,14 @@ same-length c = search needs
 
 returns : tie.Need-returns
 returns c =
-    let s = c .before .before .before .before .before .before .before .before .before .before .before .before .before .before .before .before .before .before in
-    let f = c .before .before .before .before .before .before .before .before .before .before in
     let g = c .before .before .before .before .before .before in
-    let x = freed-changed (s .args .file) (s .args .n) (s .args .state .now) (s .pre .2) (are-bytes _ (c .before .before .before .before .before .before .before .before .before .before .before .before .before .before .before .before .before .slice-known .given)) _ (f .free-pages-from .ensures) in
-    let y = logical-changed _ (omega (arith, f .free-pages-from .kept .0)) (are-bytes _ (c .before .before .before .before .before .before .before .before .slice-known2 .given)) _ _ _ (g .set-logical .ensures) in
+    let f = g .before .before .before .before in
+    let s = start f in
+    let x = freed-changed (s .args .file) (s .args .n) (s .args .state .now) (s .pre .2) (are-bytes _ (f .before .before .before .before .before .before .before .slice-known .given)) _ (f .free-pages-from .ensures) in
+    let y = logical-changed _ (omega (arith, f .free-pages-from .kept .0)) (are-bytes _ (g .before .before .slice-known2 .given)) _ _ _ (g .set-logical .ensures) in
     let z = floor-changed _ (omega (arith, f .free-pages-from .kept .0, g .set-logical .kept .0)) (are-bytes _ (c .before .before .before .before .slice-known3 .given)) _ _ _ (c .before .before .set-floor .ensures) in
-    sizes-set (decode (s .args .state .now)) _ _ _ _ (s .args .file) (s .args .n) (c .before .before .before .before .before .before .before .before .before .before .before .before .before .before .before .logical-at .result) _ _
-    (c .before .before .before .before .before .before .before .before .before .before .before .before .before .floor-at .ensures) (c .before .before .before .before .before .before .before .before .before .before .before .before .truncated-sizes .ensures) x y z
+    sizes-set (decode (s .args .state .now)) _ _ _ _ (s .args .file) (s .args .n) (f .before .before .before .before .before .logical-at .result) _ _
+    (f .before .before .before .floor-at .ensures) (f .before .before .truncated-sizes .ensures) x y z
 
 pub truncate-state-spec : {M : Type 1} → statement M
 truncate-state-spec =
