@@ -25,7 +25,8 @@
  * format: for each file from 0 on with a nonzero byte or a nonzero stored size, TRIM to 0. All of it as state and media were before
  * the call. Power that goes on the way leaves on the part what CUT leaves in media and sizes.
  *
- * The budget of sync, mount and format is the number of media writes that can still be paid for, as by a hold-up capacitor.
+ * The budget of sync, mount and format is the number of media writes that can still be paid for, as by a hold-up capacitor. One
+ * of it must pay for any media write, so for the dearest: a TRIM of a whole file.
  *
  * Every call ends on every input: all numbers, lengths and contents are allowed. It writes only to what it is lent without
  * `const`. What the C compiler cannot check is asked of the caller: a pointer is not null (not even beside the length 0), is
