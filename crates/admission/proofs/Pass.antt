@@ -78,7 +78,7 @@ module _ (bytes : List ℕ) where
   passed-none = record {
     named = λ i h. absurd (not-suc-le-zero h);
     alone = λ i h. absurd (not-suc-le-zero h);
-    entry = λ f p hf hp. getD-replicate (files * pagesPerFile) (pagesPerFile * f + p) slotCount 0 (omega arith)
+    slot-at = λ f p hf hp. getD-replicate (files * pagesPerFile) (pagesPerFile * f + p) slotCount 0 (omega arith)
         ∙ sym (rw (le-ltb (firstIndex (holds f p) slots) 0 (omega arith)));
     places = length-replicate (files * pagesPerFile) slotCount;
   }
@@ -99,7 +99,7 @@ module _ (bytes : List ℕ) where
         (λ i h.
         let e : pagesPerFile * (i / pagesPerFile) + i % pagesPerFile ≡ i = omega arith in
         let l : firstIndex (holds (i / pagesPerFile) (i % pagesPerFile)) slots ≤ slotCount = rw count at (first-le (holds (i / pagesPerFile) (i % pagesPerFile)) slots) in
-        (rw e at (x .entry (i / pagesPerFile) (i % pagesPerFile) (omega (arith, x .places)) (omega arith)))
+        (rw e at (x .slot-at (i / pagesPerFile) (i % pagesPerFile) (omega (arith, x .places)) (omega arith)))
         ∙ capped (firstIndex (holds (i / pagesPerFile) (i % pagesPerFile)) slots) l
         ∙ sym (table-at pagesPerFile slots i (omega (arith, x .places))))
       where
@@ -137,7 +137,7 @@ module _ (bytes : List ℕ) where
       passed-free u = record {
         named = named-next;
         alone = alone-next (rw (here, u));
-        entry = λ f p hf hp. x .entry f p hf hp ∙ rw (below-next (firstIndex (holds f p) slots) k (not-here f p (rw u)));
+        slot-at = λ f p hf hp. x .slot-at f p hf hp ∙ rw (below-next (firstIndex (holds f p) slots) k (not-here f p (rw u)));
         places = x .places;
       }
 
@@ -161,25 +161,25 @@ module _ (bytes : List ℕ) where
             true-not-false (holdsAlone slots k)
             (everyBelow-at slotCount (holdsAlone slots) (and-right (every (inRange pagesPerFile) slots) _ t) k hk)
             (rw (here, u) (ne-eqb first k (λ q. omega arith)))))
-            (λ h. absurd (ne (x .entry (s .file) (s .page) (n .0) (n .1) ∙ rw (le-ltb first k h))))
+            (λ h. absurd (ne (x .slot-at (s .file) (s .page) (n .0) (n .1) ∙ rw (le-ltb first k h))))
 
         pub passed-used : getD table place 0 ≡ slotCount → Passed bytes (set table place k) (k + 1)
         unfolding holdsAlone
         passed-used e =
             let n = range-is s r u in
             let first : ℕ = firstIndex (holds (s .file) (s .page)) slots in
-            let h : k ≤ first = split-lt first k (λ l. absurd (full first l (sym (rw (lt-ltb first k l) at (x .entry (s .file) (s .page) (n .0) (n .1))) ∙ e))) (λ l. l) in
+            let h : k ≤ first = split-lt first k (λ l. absurd (full first l (sym (rw (lt-ltb first k l) at (x .slot-at (s .file) (s .page) (n .0) (n .1))) ∙ e))) (λ l. l) in
             let q : first ≡ k = omega (arith, own) in
             record {
               named = named-next;
               alone = alone-next (rw (here, u) (eq-eqb first k q));
-              entry = λ f p hf hp.
+              slot-at = λ f p hf hp.
                   split-eq (pagesPerFile * f + p) place
                   (λ w.
                   let z = same-place f p (s .file) (s .page) hp (n .1) w in
                   rw (w, getD-set-same table place k 0 (omega (arith, x .places, n .0, n .1)), z .0, z .1, lt-ltb first (k + 1) (omega arith)) (sym q))
                   (λ ne.
-                  getD-set-other table place (pagesPerFile * f + p) k 0 ne ∙ x .entry f p hf hp
+                  getD-set-other table place (pagesPerFile * f + p) k 0 ne ∙ x .slot-at f p hf hp
                   ∙ rw (below-next (firstIndex (holds f p) slots) k (not-here f p (holds-one (s .file) (s .page) f p s refl refl (λ z. ne (rw (z .0, z .1)))))));
               places = length-set table place k ∙ x .places;
             }

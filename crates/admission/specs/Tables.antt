@@ -45,5 +45,5 @@ slotBelow slots k f p = cond (ltb (firstIndex (holds f p) slots) k) (firstIndex 
 pub record Passed (bytes table : List ℕ) (k : ℕ) : Type 0 where
   pub named : (i : ℕ) → i < k → inRange pagesPerFile (getD (slotsIn bytes) i freeSlot) ≡ true
   pub alone : (i : ℕ) → i < k → holdsAlone (slotsIn bytes) i ≡ true
-  pub entry : (f p : ℕ) → f < files → p < pagesPerFile → getD table (pagesPerFile * f + p) 0 ≡ slotBelow (slotsIn bytes) k f p
+  pub slot-at : (f p : ℕ) → f < files → p < pagesPerFile → getD table (pagesPerFile * f + p) 0 ≡ slotBelow (slotsIn bytes) k f p
   pub places : length table ≡ files * pagesPerFile

@@ -1,5 +1,5 @@
 // What every call on a file begins with, on the bytes of the cache state: the order of refusals, sound states, and the slot of each
-// page. And the state that a mount leaves.
+// page. Beside it what calls do to the slots later: the first free one, pages that are freed, and the state that a mount leaves.
 use answer::Answer;
 use answer::Refusal;
 use device::CacheState;

@@ -1,4 +1,5 @@
--- The device that a call borrows, as it came and as it is left. The cache state goes in by value, and comes back.
+-- The device that a call borrows, at entry and at exit; a slice that the call may not write to is the same at both. The cache state goes
+-- in by value, and comes back.
 use denote.Ref.{now}
 use Rattle.media.specs.Moments.{Slice, mediaAtEntry, mediaAtExit}
 use Rattle.device.specs.declared.CacheState.{CacheState}

@@ -12,10 +12,10 @@ use Rattle.device.specs.Device.{Device, downState, mountedState}
 use Rattle.device.specs.Admission.{Result, admit, mediaShape, mountTests}
 use Rattle.device.specs.Plan.{writeIf, underBudget}
 
--- the TRIMs of n files from file f on: of each file that needs it, to its size
+-- the TRIMs of n files from file f on: of each file where it is wanted, to its target
 unfoldable pub trimsFrom : (ℕ → Bool) → (ℕ → ℕ) → ℕ → ℕ → List MediaWrite
-trimsFrom needed size zero f = []
-trimsFrom needed size (suc n) f = writeIf (needed f) (trim f (size f)) ++ trimsFrom needed size n (suc f)
+trimsFrom wanted target zero f = []
+trimsFrom wanted target (suc n) f = writeIf (wanted f) (trim f (target f)) ++ trimsFrom wanted target n (suc f)
 
 module _ (P : ℕ) where
   -- file f has a nonzero byte at or past n

@@ -259,7 +259,7 @@ module _ (P : ℕ) where
     -- ---- runs
 
     abbrev world : World Linked → World (store P)
-    world w = record { device = deviceIn (w .device); files = w .files }
+    world w = record { device = deviceIn (w .device); models = w .models }
 
     abbrev event : Event Linked → Event (store P)
     event (call c) = call c
@@ -284,11 +284,11 @@ module _ (P : ℕ) where
 
     step-same : (w : World Linked) (e : Event Linked) → isState (w .device .state) ≡ true → world (step Linked w e) ≡ step (store P) (world w) (event e)
     step-same w (call c) h =
-        let after : Reply Borrowed → World (store P) = λ r. record { device = deviceIn (r .device); files = feed c (r .answer) (fileOn P (r .device .media)) (w .files) } in
+        let after : Reply Borrowed → World (store P) = λ r. record { device = deviceIn (r .device); models = feed c (r .answer) (fileOn P (r .device .media)) (w .models) } in
         let r : Reply Device = storeDoes P c (deviceIn (w .device)) in
         ap after (same (w .device) h c)
-        ∙ ap (λ (x : Device). record { device = x; files = feed c (r .answer) (fileOn P (r .device .media)) (w .files) }) (said (w .device) h c)
-    step-same w (powerLost x) h = ap (λ (d : Device). record { device = d; files = w .files }) (back (deviceOf (w .device .media) x downState) down-shaped)
+        ∙ ap (λ (x : Device). record { device = x; models = feed c (r .answer) (fileOn P (r .device .media)) (w .models) }) (said (w .device) h c)
+    step-same w (powerLost x) h = ap (λ (d : Device). record { device = d; models = w .models }) (back (deviceOf (w .device .media) x downState) down-shaped)
 
     keeps : (w : World Linked) (e : Event Linked) → Holds w → Holds (step Linked w e)
     keeps w (call c) inv =
@@ -338,7 +338,7 @@ module _ (P : ℕ) where
     finds-state w (call (truncate f n)) inv = tt
     finds-state w (call (sync f budget)) inv = tt
     finds-state w (call (mount budget)) inv =
-        subst (λ (r : Reply Device). IsDone (r .answer) → (f : ℕ) → f < files → CrashState (w .files f) (fileOn P (r .device .media) f))
+        subst (λ (r : Reply Device). IsDone (r .answer) → (f : ℕ) → f < files → CrashState (w .models f) (fileOn P (r .device .media) f))
         (sym (images (w .device) (inv .1) (mount budget))) (Model.finds-state P (world w) (call (mount budget)) (inv .0))
     finds-state w (powerLost x) inv = tt
 

@@ -54,19 +54,19 @@ priced I one none p ws = record {
 
 module _ (P : ℕ) where
   abbrev pub Holds : World (store P) → Type 0
-  Holds w = Invariant P (w .device) (w .files)
+  Holds w = Invariant P (w .device) (w .models)
 
   -- a call that changes neither the device nor a model file, done or refused
-  same-files : (a : Coded) (w : World (store P)) → Holds w → Invariant P (w .device) (ifDone a (w .files) (w .files))
+  same-files : (a : Coded) (w : World (store P)) → Holds w → Invariant P (w .device) (ifDone a (w .models) (w .models))
   same-files a w inv = cases (eqb (a .number) 0) (λ e. rw e inv) (λ e. rw e inv)
 
   pub keeps : (w : World (store P)) (e : Event (store P)) → Holds w → Holds (step (store P) w e)
   keeps w (call (read f position buffer)) inv = same-files (storeDoes P (read f position buffer) (w .device) .answer) w inv
   keeps w (call (look f position)) inv = same-files (storeDoes P (look f position) (w .device) .answer) w inv
-  keeps w (call (write f position bytes)) inv = keeps-write P (w .device) (w .files) f position bytes inv (storeMedia P)
-  keeps w (call (truncate f n)) inv = keeps-truncate P (w .device) (w .files) f n inv (storeMedia P)
-  keeps w (call (sync f budget)) inv = keeps-sync P (w .device) (w .files) f budget inv (storeMedia P)
-  keeps w (call (mount budget)) inv = keeps-mount P (w .device) budget (w .files) inv
+  keeps w (call (write f position bytes)) inv = keeps-write P (w .device) (w .models) f position bytes inv (storeMedia P)
+  keeps w (call (truncate f n)) inv = keeps-truncate P (w .device) (w .models) f n inv (storeMedia P)
+  keeps w (call (sync f budget)) inv = keeps-sync P (w .device) (w .models) f budget inv (storeMedia P)
+  keeps w (call (mount budget)) inv = keeps-mount P (w .device) budget (w .models) inv
   keeps w (powerLost frames) inv = record {
     mountable = record { bytes = inv .mountable .bytes; sizes = inv .mountable .sizes; fit = inv .mountable .fit };
     found = λ g hg. same-found P (record { size-is = refl; byte-is = λ i hi. refl }) (inv .found g hg);
@@ -82,19 +82,19 @@ module _ (P : ℕ) where
   everywhere Q at = in-every-run (store P) Holds start-holds keeps Q at
 
   known : (w : World (store P)) → Holds w → (f : ℕ) → Usable (store P) (w .device) f → ByLog (store P) w f
-  known w inv f (up, frames, hf) = by-log P (w .device) (w .files) inv up frames f hf
+  known w inv f (up, frames, hf) = by-log P (w .device) (w .models) inv up frames f hf
 
   -- where a write stops, by the model files after it
   stops : (w : World (store P)) → Holds w → (f position : ℕ) (bytes : List ℕ) → Usable (store P) (w .device) f →
       let r : Reply Device = storeDoes P (write f position bytes) (w .device) in
       let n : ℕ = r .answer .count in
-      IsDone (r .answer) → Stops (roomFor P (change f (afterWrite position (take n bytes)) (w .files)) f) position bytes n
+      IsDone (r .answer) → Stops (roomFor P (change f (afterWrite position (take n bytes)) (w .models)) f) position bytes n
   stops w inv f position bytes (up, frames, hf) is =
       let d : Device = w .device in
       let r : Result Device = Writing.write P f position bytes d in
       let n : ℕ = r .answer .count in
-      let after : Files = change f (afterWrite position (take n bytes)) (w .files) in
-      let inv′ : Invariant P (r .left) after = rw is at (keeps-write P d (w .files) f position bytes inv (storeMedia P)) in
+      let after : Files = change f (afterWrite position (take n bytes)) (w .models) in
+      let inv′ : Invariant P (r .left) after = rw is at (keeps-write P d (w .models) f position bytes inv (storeMedia P)) in
       let k = write-kept P f position bytes d in
       let room : (at : ℕ) (bs : List ℕ) → Writing.hasRoom (r .left) f at bs ≡ roomFor P after f at bs =
       by-log P (r .left) after inv′ (k .mounted ∙ up) (k .frames ∙ frames) f hf .room in
@@ -104,14 +104,14 @@ module _ (P : ℕ) where
       ]
 
   serves : (w : World (store P)) (c : Call) → Holds w → Serves (store P) c w (storeDoes P c (w .device))
-  serves w (read f position buffer) inv = λ (up, frames, hf) h. read-serves P (w .device) (w .files) inv up frames f hf position buffer h
-  serves w (look f position) inv = λ (up, frames, hf) h. look-serves P (w .device) (w .files) inv up frames f hf position h
+  serves w (read f position buffer) inv = λ (up, frames, hf) h. read-serves P (w .device) (w .models) inv up frames f hf position buffer h
+  serves w (look f position) inv = λ (up, frames, hf) h. look-serves P (w .device) (w .models) inv up frames f hf position h
   serves w (write f position bytes) inv = λ u h.
-      (write-serves P (w .device) (w .files) inv (u .0) (u .1) f (u .2) position bytes h, stops w inv f position bytes u)
-  serves w (truncate f n) inv = λ (up, frames, hf) h. truncate-serves P (w .device) (w .files) inv up frames f hf n h
+      (write-serves P (w .device) (w .models) inv (u .0) (u .1) f (u .2) position bytes h, stops w inv f position bytes u)
+  serves w (truncate f n) inv = λ (up, frames, hf) h. truncate-serves P (w .device) (w .models) inv up frames f hf n h
   serves w (sync f budget) inv = λ (up, frames, hf).
-      (sync-serves P (w .device) (w .files) inv up frames f hf budget, sync-stores P (w .device) (w .files) inv f budget)
-  serves w (mount budget) inv = mount-serves P (w .device) (w .files) inv budget
+      (sync-serves P (w .device) (w .models) inv up frames f hf budget, sync-stores P (w .device) (w .models) inv f budget)
+  serves w (mount budget) inv = mount-serves P (w .device) (w .models) inv budget
 
   pub served : (w : World (store P)) (e : Event (store P)) → Holds w → Served (store P) w e
   served w (call c) inv = (serves w c inv, known w inv)
@@ -123,7 +123,7 @@ module _ (P : ℕ) where
   finds-state w (call (write f position bytes)) inv = tt
   finds-state w (call (truncate f n)) inv = tt
   finds-state w (call (sync f budget)) inv = tt
-  finds-state w (call (mount budget)) inv = finds P (w .device) budget (w .files) inv
+  finds-state w (call (mount budget)) inv = finds P (w .device) budget (w .models) inv
   finds-state w (powerLost frames) inv = tt
 
   -- ---- the claims, over the number of pages in a file

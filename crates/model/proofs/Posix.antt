@@ -160,7 +160,7 @@ module _ (P : ℕ) (d : Device) (fs : Files) (inv : Invariant P d fs) where
       rw (inv .mounted up f hf .cached (position / pageBytes), free-is up)
       (cases (cachedIn (fs f) (position / pageBytes)) (λ e. rw e) (λ e. rw e))
 
-  pub by-log : d .cache .mounted ≡ 1 → length (d .frames) ≡ framesBytes → (f : ℕ) → f < files → ByLog (store P) (record { device = d; files = fs }) f
+  pub by-log : d .cache .mounted ≡ 1 → length (d .frames) ≡ framesBytes → (f : ℕ) → f < files → ByLog (store P) (record { device = d; models = fs }) f
   unfolding file
   by-log up frames f hf = record {
     cached = inv .mounted up f hf .cached;

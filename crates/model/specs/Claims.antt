@@ -110,13 +110,13 @@ module _ (I : Interface) where
   abbrev pub Serves : Call → World I → Reply Device → Type 0
   -- the count is what fits into the buffer before the file ends; past it the buffer stays as it was
   Serves (read f position buffer) w r =
-      let file : List ℕ = w .files f .current in
+      let file : List ℕ = w .models f .current in
       let n : ℕ = min (length buffer) (length file - position) in
       Usable (w .device) f → position ≤ greatest I (w .device) → (r .answer ≡ done n) × (r .output ≡ overwrite buffer 0 (part file position n))
   -- to the end of the page or of the file, the nearer. All of it is handed back where the page is cached, and otherwise what lies below the
   -- floor; the rest are zeros that no buffer has
   Serves (look f position) w r =
-      let m : ModelFile = w .files f in
+      let m : ModelFile = w .models f in
       let n : ℕ = toPageEnd position (length (m .current)) in
       let shown : ℕ = toPageEnd position (cond (cachedIn m (position / pageBytes)) (length (m .current)) (floorOf m)) in
       Usable (w .device) f → position ≤ greatest I (w .device) →
@@ -124,19 +124,19 @@ module _ (I : Interface) where
   -- NO ROOM, or all bytes, or those up to a page for which there is no room after them
   Serves (write f position bytes) w r =
       let n : ℕ = r .answer .count in
-      let after : Files = change f (afterWrite position (take n bytes)) (w .files) in
+      let after : Files = change f (afterWrite position (take n bytes)) (w .models) in
       Usable (w .device) f → position + length bytes ≤ greatest I (w .device) →
-      (r .answer ≡ firstRefusal (test (roomFor (I .pages (w .device)) (w .files) f position bytes) NO-ROOM ∷ []) (done n))
+      (r .answer ≡ firstRefusal (test (roomFor (I .pages (w .device)) (w .models) f position bytes) NO-ROOM ∷ []) (done n))
       × (IsDone (r .answer) → Stops (roomFor (I .pages (w .device)) after f) position bytes n)
   Serves (truncate f n) w r = Usable (w .device) f → n ≤ greatest I (w .device) → r .answer ≡ done 0
   -- refused under its budget, or done with a count, by the media writes that the log says; done, the media holds the file exactly,
   -- bytes and size
   Serves (sync f budget) w r =
       let p : I .Part = I .partOf (w .device) in
-      let ws : List MediaWrite = syncByLog (I .pages (w .device)) (w .files f) f in
+      let ws : List MediaWrite = syncByLog (I .pages (w .device)) (w .models f) f in
       Usable (w .device) f →
       (r .answer ≡ firstRefusal (paying I p ws budget) (done (I .cost p ws)))
-      × (IsDone (r .answer) → fileOn (I .pages (w .device)) (r .device .media) f ≡ w .files f .current)
+      × (IsDone (r .answer) → fileOn (I .pages (w .device)) (r .device .media) f ≡ w .models f .current)
   -- likewise by the media writes that the media asks for
   Serves (mount budget) w r =
       let p : I .Part = I .partOf (w .device) in
@@ -145,11 +145,11 @@ module _ (I : Interface) where
 
   -- the sizes and pages in the cache, the media writes of a sync and room for a write are what the model files say
   pub record ByLog (w : World I) (f : ℕ) : Type 0 where
-    pub cached : (p : ℕ) → isCached (I .image (w .device)) f p ≡ cachedIn (w .files f) p
-    pub logical : logicalAt (I .image (w .device)) f ≡ length (w .files f .current)
-    pub floor : floorAt (I .image (w .device)) f ≡ floorOf (w .files f)
-    pub writes : syncPlan (I .pages (w .device)) (I .image (w .device)) f ≡ syncByLog (I .pages (w .device)) (w .files f) f
-    pub room : (position : ℕ) (bytes : List ℕ) → hasRoom (I .image (w .device)) f position bytes ≡ roomFor (I .pages (w .device)) (w .files) f position bytes
+    pub cached : (p : ℕ) → isCached (I .image (w .device)) f p ≡ cachedIn (w .models f) p
+    pub logical : logicalAt (I .image (w .device)) f ≡ length (w .models f .current)
+    pub floor : floorAt (I .image (w .device)) f ≡ floorOf (w .models f)
+    pub writes : syncPlan (I .pages (w .device)) (I .image (w .device)) f ≡ syncByLog (I .pages (w .device)) (w .models f) f
+    pub room : (position : ℕ) (bytes : List ℕ) → hasRoom (I .image (w .device)) f position bytes ≡ roomFor (I .pages (w .device)) (w .models) f position bytes
 
   abbrev pub Served : World I → Event I → Type 0
   Served w (call c) = Serves c w (imaged I (I .does c (w .device))) × ((f : ℕ) → Usable (w .device) f → ByLog w f)

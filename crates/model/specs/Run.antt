@@ -104,17 +104,17 @@ module _ (I : Interface) where
 
   pub record World : Type 0 where
     pub device : I .State
-    pub files : Files
+    pub models : Files
 
   abbrev pub step : World → Event → World
   step w (call c) =
       let r : Reply (I .State) = I .does c (w .device) in
-      record { device = r .device; files = feed c (r .answer) (onMedia I (r .device)) (w .files) }
-  step w (powerLost x) = record { device = I .lose x (w .device); files = w .files }
+      record { device = r .device; models = feed c (r .answer) (onMedia I (r .device)) (w .models) }
+  step w (powerLost x) = record { device = I .lose x (w .device); models = w .models }
 
   -- right after a mount that is done
   abbrev pub start : I .State → World
-  start d = record { device = d; files = λ f. fresh (onMedia I d f) }
+  start d = record { device = d; models = λ f. fresh (onMedia I d f) }
 
   -- Q holds at every event of a list
   abbrev pub Throughout : (World → Event → Type 0) → World → List Event → Type 0
@@ -131,7 +131,7 @@ module _ (I : Interface) where
   abbrev pub AtMounts : (ModelFile → List ℕ → Type 0) → World → Event → Type 0
   AtMounts Q w (call (mount budget)) =
       let r : Reply (I .State) = I .does (mount budget) (w .device) in
-      IsDone (r .answer) → (f : ℕ) → f < files → Q (w .files f) (onMedia I (r .device) f)
+      IsDone (r .answer) → (f : ℕ) → f < files → Q (w .models f) (onMedia I (r .device) f)
   AtMounts Q w (call (read f position buffer)) = Unit {0}
   AtMounts Q w (call (look f position)) = Unit {0}
   AtMounts Q w (call (write f position bytes)) = Unit {0}

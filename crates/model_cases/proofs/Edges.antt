@@ -11,9 +11,9 @@ use Rattle.device.specs.Truncating.{clearTail, withSizes, truncated, truncate}
 use Rattle.device.specs.Syncing.{trimWrites, pageWrite, pageWrites, sizeWrites, syncPlan, syncedState, sync}
 use Rattle.device.specs.Plan.{writeIf, underBudget}
 use Rattle.device.specs.Mounting.{nonzeroFrom, trimsFrom, mountPlan, mount, formatPlan, format}
-use Rattle.model_cases.specs.Edges.{Edges, usedDevice, mountedDevice, table}
+use Rattle.model_cases.specs.Edges.{Edges, usedDevice, mountedDevice, edgeCases}
 use Rattle.device.specs.Device.{freeWhere}
 
 pub edges : Edges
-unfolding fileStart freeWhere blankPage hasLengths soundTests inOrder inRange holdsAlone isDown isSound currentAt mediaShape framesShape sizesFit stateTests read filledPage cachePage patchPage putPage grown write clearTail withSizes truncated truncate trimWrites pageWrite pageWrites sizeWrites syncPlan syncedState writeIf underBudget sync nonzeroFrom trimsFrom mountPlan mount formatPlan format usedDevice mountedDevice table
+unfolding fileStart freeWhere blankPage hasLengths soundTests inOrder inRange holdsAlone isDown isSound currentAt mediaShape framesShape sizesFit stateTests read filledPage cachePage patchPage putPage grown write clearTail withSizes truncated truncate trimWrites pageWrite pageWrites sizeWrites syncPlan syncedState writeIf underBudget sync nonzeroFrom trimsFrom mountPlan mount formatPlan format usedDevice mountedDevice edgeCases
 edges = (refl, refl, refl)

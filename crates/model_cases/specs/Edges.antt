@@ -65,8 +65,8 @@ synced300 = gives (write 1 0 (A 300)) (done 300) [] ∷ gives (sync 1 3) (done 3
 abbrev pub synced600 : List Step
 synced600 = gives (write 1 0 (A 600)) (done 600) [] ∷ gives (sync 1 4) (done 4) [] ∷ []
 
-unfoldable pub table : List (List Step)
-table =
+unfoldable pub edgeCases : List (List Step)
+edgeCases =
     -- write 1 byte of value 1 at 4,095: count 1, size 4,096
     (gives (write 0 4095 (1 ∷ [])) (done 1) [] ∷ hasSize 0 4096 ∷ [])
     -- two bytes there: RANGE
@@ -122,4 +122,4 @@ abbrev pub Edges : Type 0
 Edges =
     (Mounting.format pagesPerFile 8 usedDevice .answer ≡ done 8)
     × (Mounting.mount pagesPerFile 0 (Mounting.format pagesPerFile 8 usedDevice .left) ≡ give (done 0) mountedDevice)
-    × (every (plays mountedDevice) table ≡ true)
+    × (every (plays mountedDevice) edgeCases ≡ true)

@@ -18,7 +18,7 @@ use Rattle.device.specs.Device.{Device}
 use Rattle.session_line.specs.Grammar.{parse, lines, LF, greatestLine, inFirst}
 use Rattle.session_line.specs.Reply.{header}
 use Rattle.session_run.specs.declared.PartialLine.{PartialLine}
-use Rattle.session_run.specs.Session.{text, run, runLine, answers, startDevice, output}
+use Rattle.session_run.specs.Session.{replyOf, run, runLine, answers, startDevice, output}
 use Rattle.session_run.specs.Feeding.{keptBytes, noLine, pushed, restarted, lineOf, Fed, feedByte, feed, feedAll, lastEnd}
 use Rattle.session_run.proofs.Feeding.{feed-join}
 use Rattle.session_claims.specs.Claims.{joined, printedInBlocks, AnyBlocks}
@@ -119,9 +119,9 @@ module _ (P : ℕ) where
   run-kept p line d k = ap (λ c. run P c d) (ap parse (k .kept) ∙ parse-kept line)
 
   rest-ended : (bs : List ℕ) (d : Device) (p : PartialLine)
-      → rest (LF ∷ bs) d p ≡ text (runLine P (lineOf p) d) ++ rest bs (runLine P (lineOf p) d .device) (restarted p)
+      → rest (LF ∷ bs) d p ≡ replyOf (runLine P (lineOf p) d) ++ rest bs (runLine P (lineOf p) d .device) (restarted p)
   unfolding rest feedByte
-  rest-ended bs d p = append-assoc (text (runLine P (lineOf p) d)) _ _
+  rest-ended bs d p = append-assoc (replyOf (runLine P (lineOf p) d)) _ _
 
   rest-more : (b : ℕ) (bs : List ℕ) (d : Device) (p : PartialLine) → b ≢ LF → rest (b ∷ bs) d p ≡ rest bs d (pushed b p)
   unfolding rest feedByte
@@ -137,7 +137,7 @@ module _ (P : ℕ) where
   rest-lines (b ∷ bs) d p line k =
       split-eq b LF
       (λ q. rw (q, lines-ended line bs (k .unended))
-      (rest-ended bs d p ∙ rw (run-kept p line d k) (ap (λ t. text (runLine P line d) ++ t) (rest-lines bs (runLine P line d .device) (restarted p) [] (keeps-restarted p line k)))))
+      (rest-ended bs d p ∙ rw (run-kept p line d k) (ap (λ t. replyOf (runLine P line d) ++ t) (rest-lines bs (runLine P line d .device) (restarted p) [] (keeps-restarted p line k)))))
       (λ n. rest-more b bs d p n ∙ rest-lines bs d (pushed b p) (line ++ (b ∷ [])) (keeps-pushed p line b k n) ∙ ap (λ l. answers P (lines l) d) (append-assoc line (b ∷ []) bs))
 
 pub any-blocks : AnyBlocks

@@ -12,7 +12,7 @@ use Rattle.model.specs.Run.{Reply, World, step}
 use Rattle.model.specs.Run.Event.{call}
 use Rattle.model.specs.Store.{store, storeDoes}
 use Rattle.session_line.specs.Grammar.{Command, parse, F, M, W, T, S, R}
-use Rattle.session_run.specs.Session.{Ran, printsNone, text, run, runLine, answers}
+use Rattle.session_run.specs.Session.{Ran, withoutBytes, replyOf, run, runLine, answers}
 use Rattle.session_claims.specs.Runs.{Asked, asked, shown, printed, LinesAreCalls}
 use Rattle.session_claims.specs.Runs.Asked.{makes, formats, nothing}
 
@@ -21,7 +21,7 @@ module _ (P : ℕ) where
   abbrev given : Asked → Device → Ran
   given (makes c) d = shown (storeDoes P c d)
   given (formats budget) d = shown (store P .formats budget d)
-  given nothing d = printsNone (give LINE d)
+  given nothing d = withoutBytes (give LINE d)
 
   given-is : (c : Command) (d : Device) → run P c d ≡ given (asked c) d
   unfolding run asked
@@ -36,12 +36,12 @@ module _ (P : ℕ) where
   -- one line, and the rest from the device that it leaves
   printed-one : (a : Asked) (more : List Asked) (w : World (store P)) (rest : Device → List ℕ)
       → ((v : World (store P)) → rest (v .device) ≡ printed P more v)
-      → text (given a (w .device)) ++ rest (given a (w .device) .device) ≡ printed P (a ∷ more) w
-  printed-one (makes c) more w rest h = ap (λ (t : List ℕ). text (shown (storeDoes P c (w .device))) ++ t) (h (step (store P) w (call c)))
+      → replyOf (given a (w .device)) ++ rest (given a (w .device) .device) ≡ printed P (a ∷ more) w
+  printed-one (makes c) more w rest h = ap (λ (t : List ℕ). replyOf (shown (storeDoes P c (w .device))) ++ t) (h (step (store P) w (call c)))
   printed-one (formats budget) more w rest h =
       let r : Reply Device = store P .formats budget (w .device) in
-      ap (λ (t : List ℕ). text (shown r) ++ t) (h (record { device = r .device; files = w .files }))
-  printed-one nothing more w rest h = ap (λ (t : List ℕ). text (printsNone (give LINE (w .device))) ++ t) (h w)
+      ap (λ (t : List ℕ). replyOf (shown r) ++ t) (h (record { device = r .device; models = w .models }))
+  printed-one nothing more w rest h = ap (λ (t : List ℕ). replyOf (withoutBytes (give LINE (w .device))) ++ t) (h w)
 
   pub lines-are-calls : LinesAreCalls P
   unfolding runLine

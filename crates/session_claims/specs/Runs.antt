@@ -14,7 +14,7 @@ use Rattle.model.specs.Run.Call.{read, write, truncate, sync, mount}
 use Rattle.model.specs.Run.Event.{call}
 use Rattle.model.specs.Store.{store, storeDoes}
 use Rattle.session_line.specs.Grammar.{Command, parse, F, M, W, T, S, R}
-use Rattle.session_run.specs.Session.{Ran, printsNone, text, answers}
+use Rattle.session_run.specs.Session.{Ran, withoutBytes, replyOf, answers}
 
 -- what a line asks for: a call of a run; a format, which ends the run; nothing where it has no form
 pub data Asked : Type 0 where
@@ -41,10 +41,10 @@ module _ (P : ℕ) where
   -- format they say nothing, up to the next done mount
   abbrev pub printed : List Asked → World (store P) → List ℕ
   printed [] w = []
-  printed (makes c ∷ more) w = text (shown (storeDoes P c (w .device))) ++ printed more (step (store P) w (call c))
+  printed (makes c ∷ more) w = replyOf (shown (storeDoes P c (w .device))) ++ printed more (step (store P) w (call c))
   printed (formats budget ∷ more) w =
-      let r : Reply Device = store P .formats budget (w .device) in text (shown r) ++ printed more (record { device = r .device; files = w .files })
-  printed (nothing ∷ more) w = text (printsNone (give LINE (w .device))) ++ printed more w
+      let r : Reply Device = store P .formats budget (w .device) in replyOf (shown r) ++ printed more (record { device = r .device; models = w .models })
+  printed (nothing ∷ more) w = replyOf (withoutBytes (give LINE (w .device))) ++ printed more w
 
   abbrev pub LinesAreCalls : Type 0
   LinesAreCalls = (lines : List (List ℕ)) (w : World (store P)) → answers P lines (w .device) ≡ printed (map (λ line. asked (parse line)) lines) w

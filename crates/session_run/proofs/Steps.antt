@@ -27,9 +27,9 @@ use Rattle.session_line.specs.Grammar.{LF, greatestWrite, greatestRead}
 use Rattle.session_line.specs.Reply.{decimal, replyLine, printAnswer, printed}
 use Rattle.session_line.proofs.Reply.{length-small, decimal-length, decimal-fits, reply-length}
 use Rattle.session_run.specs.declared.PartialLine.{PartialLine}
-use Rattle.session_run.specs.Session.{Ran, printsNone, shown, text, run, runLine}
+use Rattle.session_run.specs.Session.{Ran, withoutBytes, shown, replyOf, run, runLine}
 use Rattle.session_run.specs.Feeding.{keptBytes, restarted, lineOf, feedByte, replyBytes, runInto}
-use Rattle.session_run.specs.Steps.{readBuffer, writeBuffer, Made, Stepped}
+use Rattle.session_run.specs.Steps.{readBuffer, writeBuffer, Executed, Stepped}
 
 pub take-write-buffer : (n b : ℕ) → n ≤ greatestWrite → take n (writeBuffer b) ≡ replicate n b
 unfolding writeBuffer
@@ -54,18 +54,18 @@ within-of r v e h = rw e at h
 
 module _ (request v : Request) (told : request ≡ v) (P : ℕ) (d : Device) (m : Media) (frames : List ℕ) (a : Answer) (reads : Bool) (bytes : List ℕ) (s : CacheState) where
   -- a call that prints no bytes
-  pub made-prints-none : (x : Result Device) (b : Answer) (t : CacheState) → run P (spelled v) d ≡ printsNone x → give (coded b) (deviceOf m frames t) ≡ x
-      → (a ≡ b) × (s ≡ t) × (reads ≡ false) → Made (run P (spelled request) d) (coded a) reads bytes (deviceOf m frames s)
-  made-prints-none x b t er ex k =
+  pub executed-without-bytes : (x : Result Device) (b : Answer) (t : CacheState) → run P (spelled v) d ≡ withoutBytes x → give (coded b) (deviceOf m frames t) ≡ x
+      → (a ≡ b) × (s ≡ t) × (reads ≡ false) → Executed (run P (spelled request) d) (coded a) reads bytes (deviceOf m frames s)
+  executed-without-bytes x b t er ex k =
       record {
-        ran = rw (told, er, k .0, k .1, k .2) (ap printsNone ex);
+        ran = rw (told, er, k .0, k .1, k .2) (ap withoutBytes ex);
         few = λ q. absurd (false≢true (sym (k .2) ∙ q));
       }
 
   -- a read
-  pub made-read : (f position n : ℕ) → run P (spelled v) d ≡ shown d (read P f position (zeros n) d) → d ≡ deviceOf m frames s → n ≤ greatestRead
-      → give (coded a) (take n bytes) ≡ read P f position (zeros n) d → reads ≡ true → Made (run P (spelled request) d) (coded a) reads bytes (deviceOf m frames s)
-  made-read f position n er ed h ex k =
+  pub executed-read : (f position n : ℕ) → run P (spelled v) d ≡ shown d (read P f position (zeros n) d) → d ≡ deviceOf m frames s → n ≤ greatestRead
+      → give (coded a) (take n bytes) ≡ read P f position (zeros n) d → reads ≡ true → Executed (run P (spelled request) d) (coded a) reads bytes (deviceOf m frames s)
+  executed-read f position n er ed h ex k =
       let e : coded a .count ≡ read P f position (zeros n) d .answer .count = ap (λ (r : Result (List ℕ)). r .answer .count) ex in
       let c : coded a .count ≤ n = omega (arith, e, read-counts P f position (zeros n) d, length-replicate {A = ℕ} n 0) in
       record {
@@ -75,11 +75,11 @@ module _ (request v : Request) (told : request ≡ v) (P : ℕ) (d : Device) (m 
 
 -- ---- the line that is printed
 
-pub shown-few : (r : Ran) (a : Coded) (reads : Bool) (bytes : List ℕ) (d : Device) → Made r a reads bytes d → cond reads (a .count) 0 ≤ greatestRead
+pub shown-few : (r : Ran) (a : Coded) (reads : Bool) (bytes : List ℕ) (d : Device) → Executed r a reads bytes d → cond reads (a .count) 0 ≤ greatestRead
 shown-few r a reads bytes d m = cases reads (λ e. rw e (m .few e)) (λ e. rw e (omega arith))
 
 -- no line is longer than `replyBytes`
-pub text-fits : (r : Ran) (a : Answer) (reads : Bool) (bytes : List ℕ) (d : Device) → Made r (coded a) reads bytes d → coded a .count < 2 ^ 64
+pub text-fits : (r : Ran) (a : Answer) (reads : Bool) (bytes : List ℕ) (d : Device) → Executed r (coded a) reads bytes d → coded a .count < 2 ^ 64
     → length (replyLine (coded a) (take (cond reads (coded a .count) 0) bytes)) ≤ replyBytes
 text-fits r a reads bytes d m h =
     let n : length (decimal (coded a .number)) ≡ 1 = length-small (coded a .number) (number-small a) in
@@ -122,8 +122,8 @@ pub stepped-end : (P : ℕ) (d : Device) (p : PartialLine) (line output left : L
 unfolding runInto feedByte
 stepped-end P d p line output left after a n el h en e =
     let r : Ran = runLine P line d in
-    let q : give {A = Device × List ℕ} (coded a) (after, left) ≡ give (done (length (text r))) (r .device, overwrite output 0 (text r)) = rw (eq-eqb _ _ h) at (e .0) in
-    let m : coded a .count ≡ length (text r) = ap (λ (x : Result (Device × List ℕ)). x .answer .count) q in
+    let q : give {A = Device × List ℕ} (coded a) (after, left) ≡ give (done (length (replyOf r))) (r .device, overwrite output 0 (replyOf r)) = rw (eq-eqb _ _ h) at (e .0) in
+    let m : coded a .count ≡ length (replyOf r) = ap (λ (x : Result (Device × List ℕ)). x .answer .count) q in
     rw (← el)
     (record {
       device = ap (λ (x : Result (Device × List ℕ)). x .left .0) q;

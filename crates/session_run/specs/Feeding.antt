@@ -11,7 +11,7 @@ use Rattle.device.specs.Device.{Device}
 use Rattle.device.specs.Admission.{Result, give, admit}
 use Rattle.session_line.specs.Grammar.{greatestLine, LF}
 use Rattle.session_run.specs.declared.PartialLine.{PartialLine}
-use Rattle.session_run.specs.Session.{Ran, text, runLine}
+use Rattle.session_run.specs.Session.{Ran, replyOf, runLine}
 
 -- ---- the line that has not ended yet
 
@@ -49,7 +49,7 @@ module _ (P : ℕ) where
   unfoldable pub feedByte : ℕ → Device → PartialLine → Fed
   feedByte b d p =
       let r : Ran = runLine P (lineOf p) d in
-      cond (eqb b LF) (fed (r .device) (restarted p) (text r)) (fed d (pushed b p) [])
+      cond (eqb b LF) (fed (r .device) (restarted p) (replyOf r)) (fed d (pushed b p) [])
 
   abbrev pub feed : List ℕ → Device → PartialLine → Fed
   feed [] d p = fed d p []
@@ -74,7 +74,7 @@ replyBytes = 70
 unfoldable pub runInto : ℕ → List ℕ → Device × List ℕ → Result (Device × List ℕ)
 runInto P line x =
     let r : Ran = runLine P line (x .0) in
-    admit (test (eqb (length (x .1)) replyBytes) SHAPE ∷ []) x (give (done (length (text r))) (r .device, overwrite (x .1) 0 (text r)))
+    admit (test (eqb (length (x .1)) replyBytes) SHAPE ∷ []) x (give (done (length (replyOf r))) (r .device, overwrite (x .1) 0 (replyOf r)))
 
 -- what `feed` borrows
 pub record State : Type 0 where

@@ -25,28 +25,28 @@ pub record Ran : Type 0 where
   pub device : Device
 
 -- a call that prints no bytes
-abbrev pub printsNone : Result Device → Ran
-printsNone r = record { answer = r .answer; bytes = []; device = r .left }
+abbrev pub withoutBytes : Result Device → Ran
+withoutBytes r = record { answer = r .answer; bytes = []; device = r .left }
 
 -- a read prints the bytes that it counts
 abbrev pub shown : Device → Result (List ℕ) → Ran
 shown d r = record { answer = r .answer; bytes = take (r .answer .count) (r .left); device = d }
 
-abbrev pub text : Ran → List ℕ
-text r = replyLine (r .answer) (r .bytes)
+abbrev pub replyOf : Ran → List ℕ
+replyOf r = replyLine (r .answer) (r .bytes)
 
 module _ (P : ℕ) where
   -- the call that a command asks for; LINE, which changes nothing, where it has none of the letters
   unfoldable pub run : Command → Device → Ran
   run c d =
       let n : ℕ → ℕ = λ k. getD (c .numbers) k 0 in
-      cond (eqb (c .letter) F) (printsNone (format P (n 0) d))
-      (cond (eqb (c .letter) M) (printsNone (mount P (n 0) d))
-      (cond (eqb (c .letter) W) (printsNone (write P (n 0) (n 1) (replicate (n 2) (n 3)) d))
-      (cond (eqb (c .letter) T) (printsNone (truncate P (n 0) (n 1) d))
-      (cond (eqb (c .letter) S) (printsNone (sync P (n 0) (n 1) d))
+      cond (eqb (c .letter) F) (withoutBytes (format P (n 0) d))
+      (cond (eqb (c .letter) M) (withoutBytes (mount P (n 0) d))
+      (cond (eqb (c .letter) W) (withoutBytes (write P (n 0) (n 1) (replicate (n 2) (n 3)) d))
+      (cond (eqb (c .letter) T) (withoutBytes (truncate P (n 0) (n 1) d))
+      (cond (eqb (c .letter) S) (withoutBytes (sync P (n 0) (n 1) d))
       (cond (eqb (c .letter) R) (shown d (read P (n 0) (n 1) (zeros (n 2)) d))
-      (printsNone (give LINE d)))))))
+      (withoutBytes (give LINE d)))))))
 
   unfoldable pub runLine : List ℕ → Device → Ran
   runLine line d = run (parse line) d
@@ -54,7 +54,7 @@ module _ (P : ℕ) where
   -- what is printed for lines, one after another
   abbrev pub answers : List (List ℕ) → Device → List ℕ
   answers [] d = []
-  answers (line ∷ more) d = text (runLine line d) ++ answers more (runLine line d .device)
+  answers (line ∷ more) d = replyOf (runLine line d) ++ answers more (runLine line d .device)
 
   -- media all 0, and down
   unfoldable pub startDevice : Device

@@ -21,7 +21,7 @@ unfoldable pub readBuffer : List ℕ
 readBuffer = zeros greatestRead
 
 -- a call was made: its answer, and the bytes to print if it is a read
-pub record Made (r : Ran) (a : Coded) (reads : Bool) (bytes : List ℕ) (d : Device) : Type 0 where
+pub record Executed (r : Ran) (a : Coded) (reads : Bool) (bytes : List ℕ) (d : Device) : Type 0 where
   pub ran : record { answer = a; bytes = take (cond reads (a .count) 0) bytes; device = d } ≡ r
   pub few : reads ≡ true → a .count ≤ greatestRead
 

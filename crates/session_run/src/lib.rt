@@ -24,7 +24,7 @@ ghost use Rattle.session_line.specs.Reply.{header};
 ghost use Rattle.session_line.specs.Parser.{Within};
 ghost use Rattle.session_run.specs.Session.{run};
 ghost use Rattle.session_run.specs.Feeding.{replyBytes, noLine, pushed, restarted, lastEnd, feedByte, runInto, stateOf, feedBlock};
-ghost use Rattle.session_run.specs.Steps.{readBuffer, writeBuffer, Made, Stepped};
+ghost use Rattle.session_run.specs.Steps.{readBuffer, writeBuffer, Executed, Stepped};
 ghost use Rattle.device.specs.Moments.{deviceAtEntry, deviceAtExit};
 
 // The greatest length of a line that is printed.
@@ -68,7 +68,7 @@ fn read_buffer() -> [u8; 32]
     [0; 32]
 }
 
-fn prints_none(outcome: Outcome) -> Call
+fn without_bytes(outcome: Outcome) -> Call
     ensures { λ r. ⌜ (r .answer ≡ outcome .answer) × (r .cache ≡ outcome .cache) × (r .reads ≡ false) ⌝ }
 {
     let answer = outcome.answer;
@@ -151,13 +151,13 @@ fn execute(
     request: Request,
 ) -> Call
     requires { ⌜ Within request ⌝ }
-    ensures { λ r. ⌜ Made (run pagesPerFile (spelled request) (deviceAtEntry media sizes frames cache))
+    ensures { λ r. ⌜ Executed (run pagesPerFile (spelled request) (deviceAtEntry media sizes frames cache))
         (coded (r .answer)) (r .reads) (r .bytes) (deviceAtExit media sizes frames (r .cache)) ⌝ }
 {
     match request {
-        Request::Format(budget) => prints_none(cache::format(media, sizes, cache, budget)),
-        Request::Mount(budget) => prints_none(cache::mount(media, sizes, cache, budget)),
-        Request::Write(file, position, count, byte) => prints_none(write_bytes(
+        Request::Format(budget) => without_bytes(cache::format(media, sizes, cache, budget)),
+        Request::Mount(budget) => without_bytes(cache::mount(media, sizes, cache, budget)),
+        Request::Write(file, position, count, byte) => without_bytes(write_bytes(
             media,
             sizes,
             frames,
@@ -167,7 +167,7 @@ fn execute(
             count,
             byte,
         )),
-        Request::Truncate(file, n) => prints_none(cache::truncate(
+        Request::Truncate(file, n) => without_bytes(cache::truncate(
             media,
             sizes,
             frames,
@@ -175,7 +175,7 @@ fn execute(
             file,
             n,
         )),
-        Request::Sync(file, budget) => prints_none(cache::sync(
+        Request::Sync(file, budget) => without_bytes(cache::sync(
             media,
             sizes,
             frames,
@@ -186,7 +186,7 @@ fn execute(
         Request::Read(file, position, count) => {
             read_bytes(media, sizes, frames, cache, file, position, count)
         }
-        Request::Malformed => prints_none(Outcome {
+        Request::Malformed => without_bytes(Outcome {
             answer: Answer::Refused(Refusal::Line),
             cache,
         }),

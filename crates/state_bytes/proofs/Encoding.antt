@@ -65,20 +65,20 @@ module _ {A : Type 0} (c : ℕ) (g : A → List ℕ) (wide : (x : A) → length 
       rw (add-one, concatMap-next g xs k d h, overwrite-join-at s a (concatMap g (take k xs)) (g (getD xs k d)), length-taken xs k (omega arith))
 
   -- byte j of element k
-  pub joined-at : (xs : List A) (ys : List ℕ) (k j : ℕ) (d : A) → k < length xs → j < c → getD (concatMap g xs ++ ys) (c * k + j) 0 ≡ getD (g (getD xs k d)) j 0
-  joined-at [] ys k j d h l = absurd (not-suc-le-zero h)
-  joined-at (x ∷ xs) ys zero j d h l =
+  pub concatMap-at : (xs : List A) (ys : List ℕ) (k j : ℕ) (d : A) → k < length xs → j < c → getD (concatMap g xs ++ ys) (c * k + j) 0 ≡ getD (g (getD xs k d)) j 0
+  concatMap-at [] ys k j d h l = absurd (not-suc-le-zero h)
+  concatMap-at (x ∷ xs) ys zero j d h l =
       rw (append-assoc (g x) (concatMap g xs) ys, mul-zero, zero-add) (List·getD-append (g x) (concatMap g xs ++ ys) 0 j (rw (wide x) l))
-  joined-at (x ∷ xs) ys (suc k) j d h l =
+  concatMap-at (x ∷ xs) ys (suc k) j d h l =
       rw (append-assoc (g x) (concatMap g xs) ys, mul-suc)
-      (ap (λ (n : ℕ). getD (g x ++ (concatMap g xs ++ ys)) n 0) (shift x k) ∙ getD-append-add (g x) (concatMap g xs ++ ys) (c * k + j) 0 ∙ joined-at xs ys k j d (le-of-suc-le-suc h) l)
+      (ap (λ (n : ℕ). getD (g x ++ (concatMap g xs ++ ys)) n 0) (shift x k) ∙ getD-append-add (g x) (concatMap g xs ++ ys) (c * k + j) 0 ∙ concatMap-at xs ys k j d (le-of-suc-le-suc h) l)
     where
       shift : (x : A) (k : ℕ) → c * k + c + j ≡ length (g x) + (c * k + j)
       shift x k = rw (wide x) (omega arith)
 
   -- what stands behind all of them
-  pub joined-past : (xs : List A) (ys : List ℕ) (n : ℕ) → getD (concatMap g xs ++ ys) (c * length xs + n) 0 ≡ getD ys n 0
-  joined-past xs ys n = rw (← length-concatMap xs) (getD-append-add (concatMap g xs) ys n 0)
+  pub concatMap-past : (xs : List A) (ys : List ℕ) (n : ℕ) → getD (concatMap g xs ++ ys) (c * length xs + n) 0 ≡ getD ys n 0
+  concatMap-past xs ys n = rw (← length-concatMap xs) (getD-append-add (concatMap g xs) ys n 0)
 
 -- ---- what is given for each number
 
@@ -112,12 +112,12 @@ module _ {A : Type 0} where
       (λ k l. let m : k < n = rw (length-each n g) at l in getD-each n g k d m ∙ h k m)
 
 -- the bytes that stood where each element was read
-pub joined-each : {A : Type 0} (c : ℕ) (g : A → List ℕ) (f : ℕ → A) (bytes : List ℕ) (a n : ℕ)
+pub concatMap-each : {A : Type 0} (c : ℕ) (g : A → List ℕ) (f : ℕ → A) (bytes : List ℕ) (a n : ℕ)
     → ((k : ℕ) → k < n → g (f k) ≡ part bytes (a + c * k) c) → concatMap g (each n f) ≡ part bytes a (c * n)
-joined-each c g f bytes a zero h = rw (mul-zero c)
-joined-each c g f bytes a (suc n) h =
+concatMap-each c g f bytes a zero h = rw (mul-zero c)
+concatMap-each c g f bytes a (suc n) h =
     concatMap-append g (each n f) (f n ∷ [])
-    ∙ rw (append-nil, joined-each c g f bytes a n (λ k l. h k (omega arith)), h n (omega arith), mul-suc, take-add, drop-drop)
+    ∙ rw (append-nil, concatMap-each c g f bytes a n (λ k l. h k (omega arith)), h n (omega arith), mul-suc, take-add, drop-drop)
 
 -- ---- the whole state
 

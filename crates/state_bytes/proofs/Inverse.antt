@@ -19,7 +19,7 @@ use Rattle.device.specs.declared.CacheState.{CacheState}
 use Rattle.device.specs.Device.{slotCount, freeSlot}
 use Rattle.state_bytes.specs.Encoding.{stateBytes, slotsStart, logicalStart, floorStart, slotBytes, numberBytes, concatMap, slotIn, numberIn, slotsIn, sizesIn, encode, decode}
 use Rattle.state_bytes.specs.Inverse.{Shaped, areBytes, Inverse}
-use Rattle.state_bytes.proofs.Encoding.{length-concatMap, joined-at, joined-past, each-is, joined-each}
+use Rattle.state_bytes.proofs.Encoding.{length-concatMap, concatMap-at, concatMap-past, each-is, concatMap-each}
 
 -- ---- a state, written and read
 
@@ -48,7 +48,7 @@ module _ (s : CacheState) (h : Shaped s) where
   unfolding encode
   slot-byte k j l m =
       after-mark (s .mounted) (concatMap slotBytes (s .slots) ++ tail) (3 * k + j)
-      ∙ joined-at 3 slotBytes (λ t. refl) (s .slots) tail k j freeSlot (rw (h .slots) l) m
+      ∙ concatMap-at 3 slotBytes (λ t. refl) (s .slots) tail k j freeSlot (rw (h .slots) l) m
 
   logical-byte : (f j : ℕ) → f < files → j < 4 → getD (encode s) (logicalStart + (4 * f + j)) 0 ≡ getD (numberBytes (getD (s .logical) f 0)) j 0
   unfolding encode
@@ -56,8 +56,8 @@ module _ (s : CacheState) (h : Shaped s) where
       let e : logicalStart + (4 * f + j) ≡ 1 + (3 * length (s .slots) + (4 * f + j)) = rw (h .slots) (omega arith) in
       rw e
       (after-mark (s .mounted) (concatMap slotBytes (s .slots) ++ tail) (3 * length (s .slots) + (4 * f + j))
-      ∙ joined-past 3 slotBytes (λ t. refl) (s .slots) tail (4 * f + j)
-      ∙ joined-at 4 numberBytes (λ n. refl) (s .logical) (concatMap numberBytes (s .floor)) f j 0 (rw (h .logical) l) m)
+      ∙ concatMap-past 3 slotBytes (λ t. refl) (s .slots) tail (4 * f + j)
+      ∙ concatMap-at 4 numberBytes (λ n. refl) (s .logical) (concatMap numberBytes (s .floor)) f j 0 (rw (h .logical) l) m)
 
   floor-byte : (f j : ℕ) → f < files → j < 4 → getD (encode s) (floorStart + (4 * f + j)) 0 ≡ getD (numberBytes (getD (s .floor) f 0)) j 0
   unfolding encode
@@ -66,9 +66,9 @@ module _ (s : CacheState) (h : Shaped s) where
       let e : floorStart + n ≡ 1 + (3 * length (s .slots) + (4 * length (s .logical) + n)) = rw (h .slots, h .logical) (omega arith) in
       rw e
       (after-mark (s .mounted) (concatMap slotBytes (s .slots) ++ tail) (3 * length (s .slots) + (4 * length (s .logical) + n))
-      ∙ joined-past 3 slotBytes (λ t. refl) (s .slots) tail (4 * length (s .logical) + n)
-      ∙ joined-past 4 numberBytes (λ t. refl) (s .logical) (concatMap numberBytes (s .floor)) n
-      ∙ (rw append-nil at (joined-at 4 numberBytes (λ t. refl) (s .floor) [] f j 0 (rw (h .floor) l) m)))
+      ∙ concatMap-past 3 slotBytes (λ t. refl) (s .slots) tail (4 * length (s .logical) + n)
+      ∙ concatMap-past 4 numberBytes (λ t. refl) (s .logical) (concatMap numberBytes (s .floor)) n
+      ∙ (rw append-nil at (concatMap-at 4 numberBytes (λ t. refl) (s .floor) [] f j 0 (rw (h .floor) l) m)))
 
   slots-back : slotsIn (encode s) ≡ s .slots
   unfolding slotsIn
@@ -162,14 +162,14 @@ module _ (bytes : List ℕ) (e : length bytes ≡ stateBytes) (small : areBytes 
   slots-there : concatMap slotBytes (slotsIn bytes) ≡ part bytes slotsStart 72
   unfolding slotsIn
   slots-there =
-      joined-each 3 slotBytes (λ k. slotIn bytes (slotsStart + 3 * k)) bytes slotsStart slotCount
+      concatMap-each 3 slotBytes (λ k. slotIn bytes (slotsStart + 3 * k)) bytes slotsStart slotCount
       (λ k l. part-three bytes (slotsStart + 3 * k) (rw e (omega arith)))
 
   sizes-there : (a : ℕ) → a + 32 ≤ stateBytes → concatMap numberBytes (sizesIn bytes a) ≡ part bytes a 32
   unfolding sizesIn
   sizes-there a m =
       let small-at : (i : ℕ) → getD bytes i 0 < 256 = byte-at bytes small in
-      joined-each 4 numberBytes (λ f. numberIn bytes (a + 4 * f)) bytes a files
+      concatMap-each 4 numberBytes (λ f. numberIn bytes (a + 4 * f)) bytes a files
       (λ f l.
       number-there _ _ _ _ (small-at _) (small-at _) (small-at _) (small-at _) ∙ part-four bytes (a + 4 * f) (rw e (omega arith)))
 

@@ -1,4 +1,4 @@
--- The device that a call borrows with its state as bytes, as it came and as it is left.
+-- The device that a call borrows with its state as bytes, at entry and at exit.
 use Prim.Native.Nat.{ℕ}
 use mathlib.Core.List.{List}
 use denote.Ref.{now}

@@ -10,7 +10,8 @@ ghost use lib.ListN.{length, getD};
 ghost use Rattle.memory.specs.Bytes.{overwrite};
 ghost use Rattle.media.specs.Geometry.{files};
 ghost use Rattle.device.specs.Device.{slotCount, freeSlot};
-ghost use Rattle.state_bytes.specs.Encoding.{stateBytes, slotsStart, slotBytes, numberBytes, concatMap, encoded, slotIn, slotWord, numberIn, slotsIn, sizesIn, decode, logicalStart, floorStart, slotSet, sizeSet, zerosFrom, slotsZero};
+ghost use Rattle.state_bytes.specs.Encoding.{stateBytes, slotsStart, logicalStart, floorStart, slotBytes, numberBytes, concatMap, encoded};
+ghost use Rattle.state_bytes.specs.Encoding.{slotIn, slotWord, numberIn, slotsIn, sizesIn, decode, slotSet, sizeSet, zerosFrom, slotsZero};
 
 // The length of the buffer.
 pub const STATE_BYTES: usize = 137;
@@ -248,7 +249,7 @@ fn word_in(state: &[u8], at: usize) -> u64
     low + 4294967296 * high
 }
 
-// Whether 24 bytes are 0.
+// Whether the 24 bytes from `at` on are 0.
 fn three_words_zero(state: &[u8], at: usize) -> bool
     requires { ⌜ at + 24 ≤ length (now state) ⌝ }
     ensures { λ r. ⌜ r ≡ zerosFrom (now (state .entry)) at 24 ⌝ }

@@ -41,8 +41,8 @@ fn is_made(wanted: bool, needed: usize, budget: usize) -> bool
     false
 }
 
-// The number of media writes needed, with one that may be wanted.
-fn with_one(wanted: bool, needed: usize) -> usize
+// The number of media writes needed, one more where it is wanted.
+fn count_if(wanted: bool, needed: usize) -> usize
     requires { ⌜ needed < 2 ^ 32 ⌝ }
     ensures { λ r. ⌜ r ≡ needed + cond wanted 1 0 ⌝ }
 {
@@ -69,9 +69,9 @@ fn trim_if(
 {
     if is_made(wanted, needed, budget) {
         media::trim(media, sizes, file, n);
-        return with_one(wanted, needed);
+        return count_if(wanted, needed);
     }
-    with_one(wanted, needed)
+    count_if(wanted, needed)
 }
 
 // PAGE: the bytes of slot k replace one page of the media.
@@ -161,9 +161,9 @@ fn size_if(
 {
     if is_made(wanted, needed, budget) {
         media::write_size(media, sizes, file, n);
-        return with_one(wanted, needed);
+        return count_if(wanted, needed);
     }
-    with_one(wanted, needed)
+    count_if(wanted, needed)
 }
 
 // The writes of a sync, as many as the budget pays for: TRIM, the pages, SIZE. The number needed comes back.
@@ -289,7 +289,7 @@ fn needs_trim(media: &[u8], sizes: &[u32], file: usize, n: usize) -> bool
     nonzero_from(media, file, n)
 }
 
-// The TRIMs that give each file its size in a list, as many as the budget pays for. The number needed comes back.
+// The TRIMs of the files that need it to their targets, as many as the budget pays for. The number needed comes back.
 fn trim_files(
     media: &mut [u8],
     sizes: &mut [u32],

@@ -28,7 +28,7 @@ ghost use Rattle.device.specs.Sizes.{truncatedSizes, sizesAnswer, sizesAfter};
 ghost use Rattle.device.specs.Writing.{hasSlot, blankPage, cachePage, putPage, putPages, write};
 ghost use Rattle.device.specs.Truncating.{pagesFrom, clearTail, withSizes, truncate};
 ghost use Rattle.state_bytes.specs.Encoding.{stateBytes, decode};
-ghost use Rattle.state_bytes.specs.InPlace.{borrowed, onBytes};
+ghost use Rattle.state_bytes.specs.InPlace.{onBytes};
 ghost use Rattle.admission.specs.Tables.{slotTable};
 ghost use Rattle.state_bytes.specs.Moments.{borrowedAtEntry, borrowedAtExit, decodedAtEntry, decodedAtExit};
 

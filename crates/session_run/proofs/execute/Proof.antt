@@ -6,7 +6,7 @@ use Rattle.media.specs.Write.{mediaOf}
 use Rattle.device.specs.Admission.{give}
 use Rattle.device.specs.Device.{deviceOf}
 use Rattle.session_run.specs.Session.{run}
-use Rattle.session_run.proofs.Steps.{within-of, made-prints-none, made-read}
+use Rattle.session_run.proofs.Steps.{within-of, executed-without-bytes, executed-read}
 -- `session_run::execute` meets its contract: each line makes its call.
 use mathlib.Core.Path.{_≡_, refl, sym, ap, _∙_}
 use native.Mathlib.Omega.{arith}
@@ -20,8 +20,8 @@ enum-known-request c = search needs
 format-requires : tie.Need-format-requires
 format-requires c κs = search needs
 
-prints-none-requires : tie.Need-prints-none-requires
-prints-none-requires c κs = search needs
+without-bytes-requires : tie.Need-without-bytes-requires
+without-bytes-requires c κs = search needs
 
 enum-known-request-2 : tie.Need-enum-known-request-2
 enum-known-request-2 c = search needs
@@ -29,8 +29,8 @@ enum-known-request-2 c = search needs
 mount-requires : tie.Need-mount-requires
 mount-requires c κs = search needs
 
-prints-none-requires-2 : tie.Need-prints-none-requires-2
-prints-none-requires-2 c κs = search needs
+without-bytes-requires-2 : tie.Need-without-bytes-requires-2
+without-bytes-requires-2 c κs = search needs
 
 enum-known-request-3 : tie.Need-enum-known-request-3
 enum-known-request-3 c = search needs
@@ -40,8 +40,8 @@ write-bytes-requires c κs =
     within-of _ _ (c .before .before .before .before .request3 .given .1)
     (c .before .before .before .before .before .before .before .before .before .pre)
 
-prints-none-requires-3 : tie.Need-prints-none-requires-3
-prints-none-requires-3 c κs = search needs
+without-bytes-requires-3 : tie.Need-without-bytes-requires-3
+without-bytes-requires-3 c κs = search needs
 
 enum-known-request-4 : tie.Need-enum-known-request-4
 enum-known-request-4 c = search needs
@@ -49,8 +49,8 @@ enum-known-request-4 c = search needs
 truncate-requires : tie.Need-truncate-requires
 truncate-requires c κs = search needs
 
-prints-none-requires-4 : tie.Need-prints-none-requires-4
-prints-none-requires-4 c κs = search needs
+without-bytes-requires-4 : tie.Need-without-bytes-requires-4
+without-bytes-requires-4 c κs = search needs
 
 enum-known-request-5 : tie.Need-enum-known-request-5
 enum-known-request-5 c = search needs
@@ -58,8 +58,8 @@ enum-known-request-5 c = search needs
 sync-requires : tie.Need-sync-requires
 sync-requires c κs = search needs
 
-prints-none-requires-5 : tie.Need-prints-none-requires-5
-prints-none-requires-5 c κs = search needs
+without-bytes-requires-5 : tie.Need-without-bytes-requires-5
+without-bytes-requires-5 c κs = search needs
 
 enum-known-request-6 : tie.Need-enum-known-request-6
 enum-known-request-6 c = search needs
@@ -72,8 +72,8 @@ read-bytes-requires c κs =
 enum-told : tie.Need-enum-told
 enum-told c = search needs
 
-prints-none-requires-6 : tie.Need-prints-none-requires-6
-prints-none-requires-6 c κs = search needs
+without-bytes-requires-6 : tie.Need-without-bytes-requires-6
+without-bytes-requires-6 c κs = search needs
 
 same-length : tie.Need-same-length
 same-length c = search needs
@@ -86,9 +86,9 @@ unfolding run
 returns c =
     let q = c .before .before .before .before .before .before .before .before .before in
     let a = q .before .before .before .before .before .args in
-    made-prints-none (a .request) _ (q .request .given .1) pagesPerFile
+    executed-without-bytes (a .request) _ (q .request .given .1) pagesPerFile
     (deviceOf (mediaOf (a .media .now) (a .sizes .now)) (a .frames .now) (a .cache)) _ _ _ _ _ _ _ _ _ refl
-    (c .before .before .before .before .before .format .ensures (a .frames .now)) (c .prints-none .ensures)
+    (c .before .before .before .before .before .format .ensures (a .frames .now)) (c .without-bytes .ensures)
 
 same-length-3 : tie.Need-same-length-3
 same-length-3 c = search needs
@@ -101,9 +101,9 @@ unfolding run
 returns-2 c =
     let q = c .before .before .before .before .before .before .before .before .before in
     let a = q .before .before .before .before .before .args in
-    made-prints-none (a .request) _ (q .request2 .given .1) pagesPerFile
+    executed-without-bytes (a .request) _ (q .request2 .given .1) pagesPerFile
     (deviceOf (mediaOf (a .media .now) (a .sizes .now)) (a .frames .now) (a .cache)) _ _ _ _ _ _ _ _ _ refl
-    (c .before .before .before .before .before .mount .ensures (a .frames .now)) (c .prints-none2 .ensures)
+    (c .before .before .before .before .before .mount .ensures (a .frames .now)) (c .without-bytes2 .ensures)
 
 same-length-5 : tie.Need-same-length-5
 same-length-5 c = search needs
@@ -119,9 +119,9 @@ unfolding run
 returns-3 c =
     let q = c .before .before .before .before .before .before .before .before in
     let a = q .before .before .before .before .before .args in
-    made-prints-none (a .request) _ (q .request3 .given .1) pagesPerFile
+    executed-without-bytes (a .request) _ (q .request3 .given .1) pagesPerFile
     (deviceOf (mediaOf (a .media .now) (a .sizes .now)) (a .frames .now) (a .cache)) _ _ _ _ _ _ _ _ _ refl
-    (c .before .before .before .write-bytes .ensures) (c .prints-none3 .ensures)
+    (c .before .before .before .write-bytes .ensures) (c .without-bytes3 .ensures)
 
 same-length-8 : tie.Need-same-length-8
 same-length-8 c = search needs
@@ -137,9 +137,9 @@ unfolding run
 returns-4 c =
     let q = c .before .before .before .before .before .before .before .before in
     let a = q .before .before .before .before .before .args in
-    made-prints-none (a .request) _ (q .request4 .given .1) pagesPerFile
+    executed-without-bytes (a .request) _ (q .request4 .given .1) pagesPerFile
     (deviceOf (mediaOf (a .media .now) (a .sizes .now)) (a .frames .now) (a .cache)) _ _ _ _ _ _ _ _ _ refl
-    (c .before .before .before .truncate .ensures) (c .prints-none4 .ensures)
+    (c .before .before .before .truncate .ensures) (c .without-bytes4 .ensures)
 
 same-length-11 : tie.Need-same-length-11
 same-length-11 c = search needs
@@ -156,9 +156,9 @@ returns-5 c =
     let s = c .before .before .before .before .before in
     let q = s .before .before .before .before .before in
     let a = q .before .before .before .before .before .args in
-    made-prints-none (a .request) _ (q .request5 .given .1) pagesPerFile
+    executed-without-bytes (a .request) _ (q .request5 .given .1) pagesPerFile
     (deviceOf (mediaOf (a .media .now) (a .sizes .now)) (a .frames .now) (a .cache)) _ _ _ _ _ _ _ _ _ refl
-    (s .sync .ensures) (c .prints-none5 .ensures)
+    (s .sync .ensures) (c .without-bytes5 .ensures)
 
 same-length-14 : tie.Need-same-length-14
 same-length-14 c = search needs
@@ -176,7 +176,7 @@ returns-6 c =
     let a = r .before .before .before .before .before .args in
     let q = r .request6 .given .1 in
     let e = c .read-bytes .ensures in
-    made-read (a .request) _ q pagesPerFile (deviceOf (mediaOf (a .media .now) (a .sizes .now)) (a .frames .now) (a .cache))
+    executed-read (a .request) _ q pagesPerFile (deviceOf (mediaOf (a .media .now) (a .sizes .now)) (a .frames .now) (a .cache))
     (mediaOf (a .media .now) (a .sizes .now)) (a .frames .now) (c .read-bytes .result .answer) (c .read-bytes .result .reads)
     (c .read-bytes .result .bytes) (c .read-bytes .result .cache) _ _ _ refl
     (ap (deviceOf (mediaOf (a .media .now) (a .sizes .now)) (a .frames .now)) (sym (e .1)))
@@ -186,10 +186,10 @@ returns-7 : tie.Need-returns-7
 unfolding run
 returns-7 c =
     let a = c .before .before .before .before .before .before .args in
-    made-prints-none (a .request) _ (c .before .enum-told .given .1) pagesPerFile
+    executed-without-bytes (a .request) _ (c .before .enum-told .given .1) pagesPerFile
     (deviceOf (mediaOf (a .media .now) (a .sizes .now)) (a .frames .now) (a .cache)) (mediaOf (a .media .now) (a .sizes .now)) (a .frames .now) _ _ _
     _ (give LINE (deviceOf (mediaOf (a .media .now) (a .sizes .now)) (a .frames .now) (a .cache))) (Refused Line) (a .cache) refl refl
-    (c .prints-none6 .ensures)
+    (c .without-bytes6 .ensures)
 
 pub execute-spec : {M : Type 1} → statement M
 execute-spec =
@@ -197,23 +197,23 @@ execute-spec =
     (tie.spec
     enum-known-request
     format-requires
-    prints-none-requires
+    without-bytes-requires
     enum-known-request-2
     mount-requires
-    prints-none-requires-2
+    without-bytes-requires-2
     enum-known-request-3
     write-bytes-requires
-    prints-none-requires-3
+    without-bytes-requires-3
     enum-known-request-4
     truncate-requires
-    prints-none-requires-4
+    without-bytes-requires-4
     enum-known-request-5
     sync-requires
-    prints-none-requires-5
+    without-bytes-requires-5
     enum-known-request-6
     read-bytes-requires
     enum-told
-    prints-none-requires-6
+    without-bytes-requires-6
     same-length
     same-length-2
     returns

@@ -19,8 +19,8 @@ is-made-requires c κs = search needs
 write-size-requires : tie.Need-write-size-requires
 write-size-requires c κs = search needs
 
-with-one-requires : tie.Need-with-one-requires
-with-one-requires c κs = search needs
+count-if-requires : tie.Need-count-if-requires
+count-if-requires c κs = search needs
 
 same-length : tie.Need-same-length
 same-length c = search needs
@@ -31,18 +31,18 @@ returns c =
     let i = t .before .before .before in
     let s = i .before .before .before in
     let a = s .args in
-    spent-made pagesPerFile (a .budget) (media-of s) (a .needed) (a .wanted) (size (a .file) (a .n)) _ _ (sym (i .is-made .ensures) ∙ t .before .before .if1 .taken) (c .with-one .ensures)
+    spent-made pagesPerFile (a .budget) (media-of s) (a .needed) (a .wanted) (size (a .file) (a .n)) _ _ (sym (i .is-made .ensures) ∙ t .before .before .if1 .taken) (c .count-if .ensures)
     (t .write-size .ensures .1 ∙ sym (size-applied pagesPerFile (media-of s) (a .file) (a .n) (record { bytes = omega arith; sizes = omega arith; file = omega arith; range = omega arith })))
 
-with-one-requires-2 : tie.Need-with-one-requires-2
-with-one-requires-2 c κs = search needs
+count-if-requires-2 : tie.Need-count-if-requires-2
+count-if-requires-2 c κs = search needs
 
 returns-2 : tie.Need-returns-2
 returns-2 c =
     let i = c .before .before in
     let s = i .before .before .before in
     let a = s .args in
-    spent-unmade pagesPerFile (a .budget) (media-of s) (a .needed) (a .wanted) (size (a .file) (a .n)) _ (sym (i .is-made .ensures) ∙ c .before .if1 .left) (c .with-one2 .ensures)
+    spent-unmade pagesPerFile (a .budget) (media-of s) (a .needed) (a .wanted) (size (a .file) (a .n)) _ (sym (i .is-made .ensures) ∙ c .before .if1 .left) (c .count-if2 .ensures)
 
 pub size-if-spec : {M : Type 1} → statement M
 size-if-spec =
@@ -50,8 +50,8 @@ size-if-spec =
     (tie.spec
     is-made-requires
     write-size-requires
-    with-one-requires
+    count-if-requires
     same-length
     returns
-    with-one-requires-2
+    count-if-requires-2
     returns-2)

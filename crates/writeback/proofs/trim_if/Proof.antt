@@ -19,8 +19,8 @@ is-made-requires c κs = search needs
 trim-requires : tie.Need-trim-requires
 trim-requires c κs = search needs
 
-with-one-requires : tie.Need-with-one-requires
-with-one-requires c κs = search needs
+count-if-requires : tie.Need-count-if-requires
+count-if-requires c κs = search needs
 
 same-length : tie.Need-same-length
 same-length c = search needs
@@ -34,18 +34,18 @@ returns c =
     let i = t .before .before .before .before in
     let s = i .before .before .before in
     let a = s .args in
-    spent-made pagesPerFile (a .budget) (media-of s) (a .needed) (a .wanted) (trim (a .file) (a .n)) _ _ (sym (i .is-made .ensures) ∙ t .before .before .before .if1 .taken) (c .with-one .ensures)
+    spent-made pagesPerFile (a .budget) (media-of s) (a .needed) (a .wanted) (trim (a .file) (a .n)) _ _ (sym (i .is-made .ensures) ∙ t .before .before .before .if1 .taken) (c .count-if .ensures)
     (t .trim .ensures .1 ∙ sym (trim-applied pagesPerFile (media-of s) (a .file) (a .n) (record { bytes = omega arith; sizes = omega arith; file = omega arith; range = omega arith }) (omega arith)))
 
-with-one-requires-2 : tie.Need-with-one-requires-2
-with-one-requires-2 c κs = search needs
+count-if-requires-2 : tie.Need-count-if-requires-2
+count-if-requires-2 c κs = search needs
 
 returns-2 : tie.Need-returns-2
 returns-2 c =
     let i = c .before .before in
     let s = i .before .before .before in
     let a = s .args in
-    spent-unmade pagesPerFile (a .budget) (media-of s) (a .needed) (a .wanted) (trim (a .file) (a .n)) _ (sym (i .is-made .ensures) ∙ c .before .if1 .left) (c .with-one2 .ensures)
+    spent-unmade pagesPerFile (a .budget) (media-of s) (a .needed) (a .wanted) (trim (a .file) (a .n)) _ (sym (i .is-made .ensures) ∙ c .before .if1 .left) (c .count-if2 .ensures)
 
 pub trim-if-spec : {M : Type 1} → statement M
 trim-if-spec =
@@ -53,9 +53,9 @@ trim-if-spec =
     (tie.spec
     is-made-requires
     trim-requires
-    with-one-requires
+    count-if-requires
     same-length
     same-length-2
     returns
-    with-one-requires-2
+    count-if-requires-2
     returns-2)
