@@ -12,9 +12,8 @@
  * struct boxstore is that memory of one store, and the box_ calls lend it whole: most programs need no others.
  *
  * media and sizes stand for what survives a loss of power; frames and state do not survive it. After one, make the state down
- * (boxstore_down) and mount. The mount then finds each file as its last completed sync left it, followed by a first part of the
- * bytes of each later write, from none to all, and each later truncate carried out or left out. That presumes of the part behind
- * media and sizes that it does each media write whole or not at all, and in order: PAGE (256 bytes of a file), SIZE (one
+ * (boxstore_down) and mount. The mount then finds each file as its last completed sync left it, changed by a first part of the
+ * bytes of each later write, from none to all, and by each later truncate or not. That presumes of the part behind media and sizes that it does each media write whole or not at all, and in order: PAGE (256 bytes of a file), SIZE (one
  * stored size), TRIM (zeros to the end of a file, and its stored size). And nothing else may alter media, sizes, frames or state
  * between the calls.
  *
@@ -34,15 +33,16 @@
  * Calls on different memory may run at the same time; on the same memory one call must end before the next begins, in an
  * interrupt too.
  *
- * The archive is for x86-64: size_t has 8 bytes. It needs nothing but memcpy, memmove and memset. sizes are numbers of the
- * machine; the sizes inside the state have their low byte first on every machine.
+ * The archive is for x86-64 Linux: one ELF object, size_t has 8 bytes. It makes no system call, needs nothing but memcpy, memmove
+ * and memset, and uses SSE registers. sizes are numbers of the machine; the sizes inside the state have their low byte first.
  *
  * The answer is one word, 65,536 * number + count. Number 0 is done, so a done call answers its count, below
- * BOXSTORE_REFUSED. Otherwise the number says why the call was refused, and is the first of these that applies:
+ * BOXSTORE_REFUSED. Otherwise the number says why the call was refused, and is the first of these that applies (of the calls on
+ * files; the last four calls say their own):
  *
  *   2 SHAPE     media, sizes, frames or state, where lent, has another length than above; sizes_len counts numbers and not bytes:
  *               8, not 32
- *   3 MEDIA     a stored size is above 4,096 (not from format)
+ *   3 MEDIA     a stored size is above 4,096, as on a part that was never formatted (not from format)
  *   4 BOOKS     the state is not sound (not from mount or format)
  *   5 DOWN      the state is down (not from mount or format)
  *   6 NO FILE   the file number is above 7
@@ -50,7 +50,7 @@
  *   8 NO ROOM   a write of at least one byte whose first page is not cached while 24 pages are
  *   9 CUT       sync, mount and format: the budget is below the media writes needed
  *
- * A refusal of 2 to 8 has count 0 and leaves all memory as it came. CUT has the budget as its count: that many first media
+ * (1 is of the session program.) A refusal of 2 to 8 has count 0 and leaves all memory as it came. CUT has the budget as its count: that many first media
  * writes were done, and the state is down, as after a loss of power at that moment.
  *
  * The cache state, byte by byte:
@@ -71,8 +71,8 @@
 #include <stddef.h>
 #include <stdint.h>
 
-#if SIZE_MAX != 0xFFFFFFFFFFFFFFFFu
-#error "libboxstore.a is for x86-64, where size_t has 64 bits; it has fewer here"
+#if !defined(__x86_64__) || SIZE_MAX != 0xFFFFFFFFFFFFFFFFu
+#error "libboxstore.a is for x86-64 Linux, with a size_t of 64 bits; this is another target"
 #endif
 
 #ifdef __cplusplus
@@ -106,7 +106,8 @@ extern "C" {
 /* An answer from here on is a refusal. */
 #define BOXSTORE_REFUSED 65536u
 
-enum boxstore_answer {
+/* The numbers. They are compared with boxstore_number(answer), never with the answer: a done write of 5 bytes answers 5. */
+enum boxstore_answer_number {
     BOXSTORE_DONE = 0,
     BOXSTORE_SHAPE = 2,
     BOXSTORE_MEDIA = 3,
@@ -221,7 +222,7 @@ static inline size_t boxstore_looked_len(uint64_t look) { return (size_t)(look &
 /* The truncate rule on the sizes of one file: three numbers, logical size, floor and stored size, and the greatest file size.
  * SHAPE where there are not three; BOOKS unless floor <= logical size <= greatest and floor <= stored size; RANGE where n is
  * above the greatest. */
-uint32_t boxstore_truncate_sizes(uint32_t *sizes, size_t sizes_len, size_t n, uint32_t greatest);
+uint32_t boxstore_truncate_sizes(uint32_t *record, size_t record_len, size_t n, uint32_t greatest);
 
 /* The media writes by themselves, for a part that is driven without the cache. Done, they count 0.
  * Page: the 256 bytes of a page are replaced. SHAPE where either has another length. */

@@ -11,10 +11,17 @@ fn main() -> ExitCode {
     let target = |part: &str| env::var(format!("CARGO_CFG_TARGET_{part}")).unwrap_or_default();
     let (arch, width) = (target("ARCH"), target("POINTER_WIDTH"));
     if (&*arch, &*width) != ("x86_64", "64") {
-        eprintln!("boxstore: libboxstore.a is for x86-64, and the target is {arch} with addresses of {width} bits.");
+        eprintln!("boxstore: libboxstore.a is for x86-64 Linux, and the target is {arch} with addresses of {width} bits.");
         return ExitCode::FAILURE;
     }
     let folder = env::var_os(VARIABLE).map_or_else(default_folder, PathBuf::from);
+    if folder.is_relative() {
+        eprintln!(
+            "boxstore: {VARIABLE} names a folder by its absolute path; it is '{}'.",
+            folder.display()
+        );
+        return ExitCode::FAILURE;
+    }
     let archive = folder.join("libboxstore.a");
     println!("cargo::rerun-if-changed={}", archive.display());
     if !archive.is_file() {

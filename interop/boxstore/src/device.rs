@@ -80,6 +80,17 @@ impl Device {
         &self.sizes
     }
 
+    /// The cache state: [`STATE_SLOTS`](crate::STATE_SLOTS) and the others say
+    /// where its parts begin.
+    pub fn state(&self) -> &[u8; STATE_BYTES] {
+        &self.state
+    }
+
+    /// The bytes of the cached pages; slot k has those from 256 * k on.
+    pub fn frames(&self) -> &[u8; FRAMES_BYTES] {
+        &self.frames
+    }
+
     /// [Cuts the power](Device::cut_power), and lends the media and the stored
     /// sizes: to be filled in place, as from a part that is read at the start.
     pub fn media_mut(&mut self) -> (&mut [u8; MEDIA_BYTES], &mut [u32; FILES]) {

@@ -3,6 +3,7 @@
 use core::fmt;
 
 /// Why a call was refused. All but [`Error::Cut`] leave everything as it was.
+/// [`Device`](crate::Device) gives SHAPE from `from_media` alone, and BOOKS never.
 ///
 /// `Display` and `Debug` print the same words, so that a `main` which returns
 /// an error tells what it means.

@@ -8,13 +8,14 @@
 //! A file is 0 to 4,096 bytes. A write goes into a cache of 24 pages of 256
 //! bytes, and a [sync](Device::sync) brings a file to the media. After a loss
 //! of power a [mount](Device::mount) finds each file as its last completed sync
-//! left it, followed by a first part of the bytes of each later write, none or
-//! all included, and each later truncate carried out or left out.
+//! left it, changed by a first part of the bytes of each later write, from none
+//! to all, and by each later truncate or not.
 //!
 //! The premise: the media does each media write whole or not at all, in order,
 //! and nothing else alters media, sizes, frames or state between calls. A
 //! [`Device`] has its media in memory; `boxstore.h` says which media writes of
-//! a call a driver carries from there to a part, and in which order.
+//! a call a driver carries from there to a part, and in which order, by the
+//! [state](Device::state) and the [frames](Device::frames) before the call.
 //!
 //! ```
 //! use boxstore::{Device, MOUNT_WRITES, SYNC_WRITES};

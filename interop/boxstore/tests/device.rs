@@ -1,7 +1,8 @@
 //! Every method of a device, and every refusal that one can give.
 
 use boxstore::{
-    Device, Error, FILES, FILE_BYTES, MEDIA_BYTES, MOUNT_WRITES, PAGE_BYTES, SLOTS, SYNC_WRITES,
+    Device, Error, FILES, FILE_BYTES, MEDIA_BYTES, MOUNT_WRITES, PAGE_BYTES, SLOTS, STATE_MOUNTED,
+    STATE_SLOTS, SYNC_WRITES,
 };
 
 fn mounted() -> Device {
@@ -376,4 +377,15 @@ fn len_and_read_all_are_refused_as_a_read_is() {
     device.mount(MOUNT_WRITES).unwrap();
     assert_eq!(device.len(8), Err(Error::NoFile));
     assert_eq!(device.read_all(8), Err(Error::NoFile));
+}
+
+#[test]
+fn state_and_frames_show_what_a_driver_stores() {
+    let mut device = mounted();
+    device.write(3, 300, b"driver").unwrap();
+    // slot 0 is used, by page 1 of file 3
+    assert_eq!(device.state()[STATE_MOUNTED], 1);
+    assert_eq!(device.state()[STATE_SLOTS..STATE_SLOTS + 3], [1, 3, 1]);
+    assert_eq!(&device.frames()[300 - 256..306 - 256], b"driver");
+    assert_eq!(device.frames()[..300 - 256], [0; 44]);
 }

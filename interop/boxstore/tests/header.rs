@@ -31,7 +31,7 @@ fn texts(function: &str) -> Vec<(&'static str, &'static str)> {
 
 /// The numbers of the answers, by name.
 fn numbers() -> Vec<(&'static str, u32)> {
-    let (_, list) = HEADER.split_once("enum boxstore_answer {").unwrap();
+    let (_, list) = HEADER.split_once("enum boxstore_answer_number {").unwrap();
     let (list, _) = list.split_once('}').unwrap();
     list.split(',')
         .map(|line| line.trim().split_once(" = ").expect(line))
