@@ -250,7 +250,7 @@ module _ (P : ℕ) where
     pub linked-1 : Demand1 Linked
     linked-1 c l = cases (isState (l .state)) (λ e. answers l e hp hb c) (λ e. refused-answers c l e)
 
-    -- a done call was borrowed as many bytes as a state has
+    -- a done call borrowed as many bytes as a state has
     done-state : (c : Call) (l : Borrowed) → IsDone (linkedDoes P c l .answer) → isState (l .state) ≡ true
     done-state c l is =
         cases (isState (l .state)) (λ e. e) (λ e.
