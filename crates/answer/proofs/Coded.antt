@@ -1,11 +1,12 @@
 -- Laws of answers in numbers.
 use mathlib.Core.Path.{_≡_, refl, sym, ap, _∙_}
 use mathlib.Core.Bool.{false, cond}
+use mathlib.Core.Logic.{_⊎_, inl, inr}
 use Prim.Native.Nat.{_<_}
 use native.Mathlib.Omega.{arith}
 use lib.Dec.{eqb}
 use Rattle.answer.specs.declared.Refusal.{Refusal}
-use Rattle.answer.specs.declared.Refusal.the-variants.{Line, Shape, Media, Books, Down, NoFile, Range, NoRoom, Cut}
+use Rattle.answer.specs.declared.Refusal.the-variants.{Line, Shape, Media, Books, Down, NoFile, Range, NoRoom, Cut, TripForm, TripOrder}
 use Rattle.answer.specs.declared.Answer.{Answer}
 use Rattle.answer.specs.declared.Answer.the-variants.{Done, Refused}
 use Rattle.answer.specs.Coded.{Coded, coded, codedRefusal}
@@ -21,22 +22,26 @@ refusal-number NoFile = refl
 refusal-number Range = refl
 refusal-number NoRoom = refl
 refusal-number (Cut n) = refl
+refusal-number TripForm = refl
+refusal-number TripOrder = refl
 
--- an answer's number has one digit
-pub number-small : (a : Answer) → coded a .number < 10
-number-small (Done n) = omega arith
+-- an answer's number has one digit, or it has two and the count is 0
+pub number-small : (a : Answer) → (coded a .number < 10) ⊎ ((coded a .number < 100) × (coded a .count ≡ 0))
+number-small (Done n) = inl (omega arith)
 number-small (Refused r) = go r
   where
-    go : (r : Refusal) → codedRefusal r .number < 10
-    go Line = omega arith
-    go Shape = omega arith
-    go Media = omega arith
-    go Books = omega arith
-    go Down = omega arith
-    go NoFile = omega arith
-    go Range = omega arith
-    go NoRoom = omega arith
-    go (Cut n) = omega arith
+    go : (r : Refusal) → (codedRefusal r .number < 10) ⊎ ((codedRefusal r .number < 100) × (codedRefusal r .count ≡ 0))
+    go Line = inl (omega arith)
+    go Shape = inl (omega arith)
+    go Media = inl (omega arith)
+    go Books = inl (omega arith)
+    go Down = inl (omega arith)
+    go NoFile = inl (omega arith)
+    go Range = inl (omega arith)
+    go NoRoom = inl (omega arith)
+    go (Cut n) = inl (omega arith)
+    go TripForm = inr (omega arith, refl)
+    go TripOrder = inr (omega arith, refl)
 
 -- the answer with a number and a count
 decoded : Coded → Answer
@@ -49,7 +54,9 @@ decoded c =
     (cond (eqb (c .number) 5) (Refused Down)
     (cond (eqb (c .number) 6) (Refused NoFile)
     (cond (eqb (c .number) 7) (Refused Range)
-    (cond (eqb (c .number) 8) (Refused NoRoom) (Refused (Cut (c .count)))))))))))
+    (cond (eqb (c .number) 8) (Refused NoRoom)
+    (cond (eqb (c .number) 9) (Refused (Cut (c .count)))
+    (cond (eqb (c .number) 10) (Refused TripForm) (Refused TripOrder)))))))))))
 
 decoded-refusal : (r : Refusal) → decoded (codedRefusal r) ≡ Refused r
 unfolding decoded
@@ -62,6 +69,8 @@ decoded-refusal NoFile = refl
 decoded-refusal Range = refl
 decoded-refusal NoRoom = refl
 decoded-refusal (Cut n) = refl
+decoded-refusal TripForm = refl
+decoded-refusal TripOrder = refl
 
 decoded-coded : (a : Answer) → decoded (coded a) ≡ a
 unfolding decoded

@@ -1,7 +1,7 @@
--- Answers in the numbers of document 01, "When a call is turned down".
+-- Answers in the numbers of document 01, "When a call is turned down"; 10 and 11 are of document 02, §1.
 use Prim.Native.Nat.{ℕ}
 use Rattle.answer.specs.declared.Refusal.{Refusal}
-use Rattle.answer.specs.declared.Refusal.the-variants.{Line, Shape, Media, Books, Down, NoFile, Range, NoRoom, Cut}
+use Rattle.answer.specs.declared.Refusal.the-variants.{Line, Shape, Media, Books, Down, NoFile, Range, NoRoom, Cut, TripForm, TripOrder}
 use Rattle.answer.specs.declared.Answer.{Answer}
 use Rattle.answer.specs.declared.Answer.the-variants.{Done, Refused}
 
@@ -45,6 +45,12 @@ NO-ROOM = refused 8
 abbrev pub CUT : ℕ → Coded
 CUT n = record { number = 9; count = n }
 
+abbrev pub TRIP-FORM : Coded
+TRIP-FORM = refused 10
+
+abbrev pub TRIP-ORDER : Coded
+TRIP-ORDER = refused 11
+
 -- the number and the count of each case of the enums
 abbrev pub codedRefusal : Refusal → Coded
 codedRefusal Line = LINE
@@ -56,6 +62,8 @@ codedRefusal NoFile = NO-FILE
 codedRefusal Range = RANGE
 codedRefusal NoRoom = NO-ROOM
 codedRefusal (Cut n) = CUT n
+codedRefusal TripForm = TRIP-FORM
+codedRefusal TripOrder = TRIP-ORDER
 
 abbrev pub coded : Answer → Coded
 coded (Done n) = done n

@@ -1,10 +1,10 @@
-// The answer of a call: done with a count, or refused for one of nine reasons.
+// The answer of a call: done with a count, or refused for one of eleven reasons.
 //
 // `coded` in specs/ gives each case its number and its count; every contract of the store speaks of answers through it.
 ghost use mathlib.Core.Path.{_≡_};
 ghost use Rattle.answer.specs.Coded.{coded, codedRefusal};
 
-// The nine refusals, in the order in which they are tested.
+// The refusals, in the order in which they are tested.
 pub enum Refusal {
     // The session line has none of the forms.
     Line,
@@ -24,6 +24,10 @@ pub enum Refusal {
     NoRoom,
     // The budget paid for this many media writes, and more were needed.
     Cut(usize),
+    // A line of a trip list lacks the form.
+    TripForm,
+    // The minute of a trip is not above that of the line before.
+    TripOrder,
 }
 
 pub enum Answer {
@@ -32,7 +36,7 @@ pub enum Answer {
     Refused(Refusal),
 }
 
-// The number of an answer: 0 where it is done, 1 to 9 for the refusals.
+// The number of an answer: 0 where it is done, 1 to 11 for the refusals.
 pub fn number(a: Answer) -> u8
     ensures { λ r. ⌜ r ≡ (coded a) .number ⌝ }
 {
@@ -65,6 +69,8 @@ fn refusal_number(refusal: Refusal) -> u8
         Refusal::Range => 7,
         Refusal::NoRoom => 8,
         Refusal::Cut(_) => 9,
+        Refusal::TripForm => 10,
+        Refusal::TripOrder => 11,
     }
 }
 
@@ -81,5 +87,7 @@ fn refusal_count(refusal: Refusal) -> usize
         Refusal::Range => 0,
         Refusal::NoRoom => 0,
         Refusal::Cut(n) => n,
+        Refusal::TripForm => 0,
+        Refusal::TripOrder => 0,
     }
 }

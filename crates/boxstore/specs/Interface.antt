@@ -13,6 +13,8 @@ use Rattle.device.specs.Admission.{Result, give, admit}
 use Rattle.device.specs.Sizes.{sizesAnswer, sizesAfter}
 use Rattle.state_bytes.specs.Encoding.{encode}
 use Rattle.state_bytes.specs.InPlace.{stateShape}
+use Rattle.trip_list.specs.List.{writeAnswer, written}
+use Rattle.trip_list.specs.Reading.{Placed, Given}
 
 -- ---- answers
 
@@ -52,3 +54,21 @@ unfoldable pub truncateSizes : ℕ → ℕ → List ℕ → Result (List ℕ)
 truncateSizes greatest n sizes =
     admit (test (eqb (length sizes) 3) SHAPE ∷ []) sizes
     (give (sizesAnswer greatest n (sizesRecord sizes)) (sizesList (sizesAfter greatest n (sizesRecord sizes))))
+
+-- ---- trip lists
+
+-- a trip as four numbers: minute, metres, where its driver begins in the list, and how long that is
+abbrev pub tripNumbers : Placed → List ℕ
+tripNumbers p = p .trip .minute ∷ p .trip .metres ∷ p .driver ∷ p .letters ∷ []
+
+-- four numbers become those of the trip that is given; where there is none they stay
+abbrev pub overNumbers : List Placed → List ℕ → List ℕ
+overNumbers [] numbers = numbers
+overNumbers (p ∷ ps) numbers = tripNumbers p
+
+unfoldable pub inNumbers : Given → List ℕ → Result (List ℕ)
+inNumbers g numbers = admit (test (eqb (length numbers) 4) SHAPE ∷ []) numbers (give (g .answer) (overNumbers (g .trip) numbers))
+
+-- the writer
+abbrev pub writeTrips : List ℕ → List ℕ → Result (List ℕ)
+writeTrips list buffer = give (writeAnswer list buffer) (written list buffer)

@@ -6,9 +6,11 @@
 use answer::Answer;
 use device::FileSizes;
 use device::Span;
+use trip_list::Reading;
 ghost use mathlib.Core.Path.{_≡_};
 ghost use mathlib.Core.List.{List};
 ghost use Prim.Native.Nat.{ℕ, _<_};
+ghost use lib.ListN.{length};
 ghost use Rattle.answer.specs.Coded.{coded};
 ghost use Rattle.media.specs.Geometry.{pagesPerFile};
 ghost use Rattle.media.specs.Direct.{pageAnswer, pageAfter, sizeAnswer, sizeAfter, trimAnswer, trimAfter};
@@ -17,7 +19,8 @@ ghost use Rattle.device.specs.Truncating.{truncate};
 ghost use Rattle.device.specs.Syncing.{sync};
 ghost use Rattle.device.specs.Mounting.{mount, format};
 ghost use Rattle.state_bytes.specs.InPlace.{borrowed, onBytes, readBytes, lookCountBytes, lookSpanBytes};
-ghost use Rattle.boxstore.specs.Interface.{wordOf, reply, inWord, spanWord, downBytes, truncateSizes};
+ghost use Rattle.trip_list.specs.Reading.{read, readTrip, nextTrip};
+ghost use Rattle.boxstore.specs.Interface.{wordOf, reply, inWord, spanWord, downBytes, truncateSizes, overNumbers, inNumbers, writeTrips};
 ghost use Rattle.media.specs.Moments.{mediaAtEntry, mediaAtExit};
 ghost use Rattle.state_bytes.specs.Moments.{borrowedAtEntry, borrowedAtExit};
 
@@ -228,4 +231,55 @@ pub extern "C" fn boxstore_trim(media: &mut [u8], sizes: &mut [u32], file: usize
         × (mediaAtExit media sizes ≡ trimAfter pagesPerFile (mediaAtEntry media sizes) file n) ⌝ }
 {
     answer_word(media::trim(media, sizes, file, n))
+}
+
+// ---- trip lists
+
+// What was read, as a word; a trip that was found is put into the four numbers.
+fn put_reading(list: &[u8], reading: Reading, trip: &mut [u32]) -> u32
+    requires { ⌜ (length (now trip) ≡ 4) × (read (now list) reading .answer .count < 65536) ⌝ }
+    ensures { λ r. ⌜ (r ≡ wordOf (read (now (list .entry)) reading .answer))
+        × (now (trip .exit) ≡ overNumbers (read (now (list .entry)) reading .trip) (now (trip .entry))) ⌝ }
+{
+    match reading {
+        Reading::Found(count, found) => {
+            trip[0] = found.minute;
+            trip[1] = found.metres;
+            trip[2] = found.driver;
+            trip[3] = found.letters;
+            count as u32
+        }
+        Reading::None(count) => count as u32,
+        Reading::Refused(refusal) => answer_word(Answer::Refused(refusal)),
+    }
+}
+
+// Read trip: the trip at a place of a list, from 0, as four numbers; counts the trips of the list.
+#[no_mangle]
+pub extern "C" fn boxstore_read_trip(list: &[u8], place: usize, trip: &mut [u32]) -> u32
+    ensures { λ r. ⌜ reply r (now (trip .exit)) ≡ inWord (inNumbers (readTrip (now (list .entry)) place) (now (trip .entry))) ⌝ }
+{
+    if trip.len() != 4 {
+        return SHAPE;
+    }
+    put_reading(list, trip_list::read(list, place), trip)
+}
+
+// Next trip: the trip of the line that starts at an index, as four numbers; the count is the index after that line, 0 at the end.
+#[no_mangle]
+pub extern "C" fn boxstore_next_trip(list: &[u8], at: usize, least: usize, trip: &mut [u32]) -> u32
+    ensures { λ r. ⌜ reply r (now (trip .exit)) ≡ inWord (inNumbers (nextTrip (now (list .entry)) at least) (now (trip .entry))) ⌝ }
+{
+    if trip.len() != 4 {
+        return SHAPE;
+    }
+    put_reading(list, trip_list::next_trip(list, at, least), trip)
+}
+
+// Write trips: a list in its one spelling, at the front of the buffer; counts its bytes.
+#[no_mangle]
+pub extern "C" fn boxstore_write_trips(list: &[u8], buffer: &mut [u8]) -> u32
+    ensures { λ r. ⌜ reply r (now (buffer .exit)) ≡ inWord (writeTrips (now (list .entry)) (now (buffer .entry))) ⌝ }
+{
+    answer_word(trip_list::write(list, buffer))
 }

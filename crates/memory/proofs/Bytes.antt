@@ -6,7 +6,7 @@ use native.Mathlib.Omega.{arith}
 use native.Mathlib.Nat.{not-suc-le-zero, le-of-suc-le-suc, zero-add, suc-add, add-suc, sub-zero, suc-sub-suc}
 use native.Mathlib.Numerals.{add-one}
 use lib.ListN.{length, getD, set, take, drop, replicate, length-take, length-drop, length-replicate}
-use lib.Seq.{take-nil, drop-nil, take-take, take-add, drop-drop, getD-take, getD-drop, take-append-seam}
+use lib.Seq.{take-nil, drop-nil, take-all, take-take, take-add, drop-drop, getD-take, getD-drop, take-append-seam}
 use borrow.Rule.Slice.PartMut.{putMid}
 use Rattle.memory.specs.Bytes.{zeros, part, overwrite}
 
@@ -31,6 +31,10 @@ take-front n xs ys e = rw (← e) (take-append-seam xs ys)
 
 pub length-front : (n : ℕ) (xs : List ℕ) → n ≤ length xs → length (take n xs) ≡ n
 length-front n xs h = simp length-take (omega arith)
+
+-- all from index n on
+pub rest-whole : (n : ℕ) (xs : List ℕ) → part xs n (length xs - n) ≡ drop n xs
+rest-whole n xs = let h : length (drop n xs) ≤ length xs - n = omega (arith, length-drop n xs) in take-all _ _ h
 
 module _ (xs : List ℕ) (a n : ℕ) where
   pub length-part : a + n ≤ length xs → length (part xs a n) ≡ n

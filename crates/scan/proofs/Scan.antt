@@ -1,7 +1,7 @@
 -- Laws of tests over a list.
 use mathlib.Core.Path.{_≡_, refl, sym, ap, _∙_}
-use mathlib.Core.Bool.{Bool, true, false, _&&_, _||_, false≢true}
-use mathlib.Core.List.{List, [], _∷_, map}
+use mathlib.Core.Bool.{Bool, true, false, not, _&&_, _||_, false≢true}
+use mathlib.Core.List.{List, [], _∷_, _++_, map}
 use Prim.Native.Nat.{ℕ, zero, suc, _<_, _≤_, suc-le-suc}
 use native.Mathlib.Nat.{not-suc-le-zero, le-of-suc-le-suc}
 use native.Mathlib.Omega.{arith}
@@ -70,7 +70,24 @@ module _ {A : Type 0} (t : A → Bool) where
   every-all (x ∷ xs) d h =
       and-both (t x) (every t xs) (h 0 (omega arith)) (every-all xs d (λ k l. h (suc k) (suc-le-suc l)))
 
+  pub every-join : (xs ys : List A) → every t xs ≡ true → every t ys ≡ true → every t (xs ++ ys) ≡ true
+  every-join [] ys e f = f
+  every-join (x ∷ xs) ys e f = and-both (t x) (every t (xs ++ ys)) (and-left (t x) (every t xs) e) (every-join xs ys (and-right (t x) (every t xs) e) f)
+
+  -- another test, which passes wherever this one does
+  pub every-impl : (u : A → Bool) → ((x : A) → t x ≡ true → u x ≡ true) → (xs : List A) → every t xs ≡ true → every u xs ≡ true
+  every-impl u h [] e = refl
+  every-impl u h (x ∷ xs) e = and-both (u x) (every u xs) (h x (and-left (t x) (every t xs) e)) (every-impl u h xs (and-right (t x) (every t xs) e))
+
   -- ---- the first that passes
+
+  -- elements that do not pass, before one that does
+  pub first-join : (xs : List A) (y : A) (ys : List A) → every (λ x. not (t x)) xs ≡ true → t y ≡ true → firstIndex t (xs ++ (y ∷ ys)) ≡ length xs
+  first-join [] y ys e h = rw h
+  first-join (x ∷ xs) y ys e h =
+      cases (t x)
+      (λ p. absurd (false≢true (rw p at (and-left (not (t x)) (every (λ z. not (t z)) xs) e))))
+      (λ p. rw p (ap suc (first-join xs y ys (and-right (not (t x)) (every (λ z. not (t z)) xs) e) h)))
 
   pub first-le : (xs : List A) → firstIndex t xs ≤ length xs
   first-le [] = omega arith

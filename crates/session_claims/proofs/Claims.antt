@@ -15,7 +15,8 @@ use Rattle.memory.proofs.Cases.{split-lt, split-eq}
 use Rattle.scan.specs.Scan.{every}
 use Rattle.scan.proofs.Scan.{and-left, and-right}
 use Rattle.device.specs.Device.{Device}
-use Rattle.session_line.specs.Grammar.{parse, lines, LF, greatestLine, inFirst}
+use Rattle.text.specs.Marks.{LF, inFirst}
+use Rattle.session_line.specs.Grammar.{parse, lines, greatestLine}
 use Rattle.session_line.specs.Reply.{header}
 use Rattle.session_run.specs.declared.PartialLine.{PartialLine}
 use Rattle.session_run.specs.Session.{replyOf, run, runLine, answers, startDevice, output}

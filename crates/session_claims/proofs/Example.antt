@@ -12,11 +12,12 @@ use Rattle.device.specs.Truncating.{truncate}
 use Rattle.device.specs.Syncing.{trimWrites, pageWrite, pageWrites, sizeWrites, syncPlan, syncedState, sync}
 use Rattle.device.specs.Plan.{writeIf, underBudget}
 use Rattle.device.specs.Mounting.{nonzeroFrom, trimsFrom, mountPlan, mount}
-use Rattle.session_line.specs.Grammar.{isNumber, forms, parse}
-use Rattle.session_line.specs.Reply.{decimal, replyLine, header}
+use Rattle.session_line.specs.Grammar.{forms, parse}
+use Rattle.text.specs.Decimal.{isNumeral, decimal}
+use Rattle.session_line.specs.Reply.{replyLine, header}
 use Rattle.session_run.specs.Session.{run, runLine, startDevice, output}
 use Rattle.session_claims.specs.Example.{Example}
 
 pub example : Example
-unfolding fileStart freeWhere blankPage hasLengths soundTests inOrder inRange holdsAlone isDown isSound currentAt mediaShape framesShape sizesFit stateTests read filledPage cachePage patchPage putPage grown write truncate trimWrites pageWrite pageWrites sizeWrites syncPlan syncedState writeIf underBudget sync nonzeroFrom trimsFrom mountPlan mount isNumber forms parse decimal replyLine header run runLine startDevice output
+unfolding fileStart freeWhere blankPage hasLengths soundTests inOrder inRange holdsAlone isDown isSound currentAt mediaShape framesShape sizesFit stateTests read filledPage cachePage patchPage putPage grown write truncate trimWrites pageWrite pageWrites sizeWrites syncPlan syncedState writeIf underBudget sync nonzeroFrom trimsFrom mountPlan mount isNumeral forms parse decimal replyLine header run runLine startDevice output
 example = refl

@@ -1,7 +1,7 @@
 -- The session of document 01, "The session program".
 use mathlib.Core.Path.{_≡_}
 use Rattle.media.specs.Geometry.{pagesPerFile}
-use Rattle.session_line.specs.Ascii.{ascii}
+use Rattle.text.specs.Ascii.{ascii}
 use Rattle.session_run.specs.Session.{output}
 
 abbrev pub Example : Type 0

@@ -12,85 +12,16 @@ use lib.ListN.{length, getD, set, take, drop, drop-of-length-le, length-drop}
 use lib.Seq.{drop-cons, drop-drop, take-suc-set, take-all, getD-take}
 use borrow.Author.Tests.{leb-true, eq-eqb, ne-eqb, le-leb, lt-leb}
 use borrow.Table.Steps.{cases}
-use Rattle.memory.proofs.Bytes.{length-front}
+use Rattle.memory.proofs.Bytes.{length-front, rest-whole}
 use Rattle.memory.proofs.Cases.{split-eq}
 use Rattle.scan.specs.Scan.{every, firstIndex}
 use Rattle.scan.proofs.Scan.{and-left, and-right, allOf-at, every-at, first-le}
-use Rattle.session_line.specs.Grammar.{isDigit, valueFrom, value, isNumber, comma, fields, Form, forms, numbersFit, Command, command, malformed, byForms, greatestLine, parse, F, M, W, T, S, R}
+use Rattle.text.specs.Decimal.{value}
+use Rattle.text.specs.Marks.{comma, fields}
+use Rattle.text.proofs.Decimal.{numeral}
+use Rattle.text.proofs.Marks.{parts-split}
+use Rattle.session_line.specs.Grammar.{isNumber, Form, forms, numbersFit, Command, command, malformed, byForms, greatestLine, parse, F, M, W, T, S, R}
 use Rattle.session_line.specs.Parser.{isComma, restFields, limitsOf, withValues, Fitting, Values}
-
--- ---- fields
-
--- the first field, and those after it
-pub fields-split : (xs : List ℕ) → fields xs ≡ take (firstIndex isComma xs) xs ∷ restFields (drop (firstIndex isComma xs) xs)
-fields-split [] = refl
-fields-split (c ∷ cs) = cases (eqb c comma) (λ h. rw h) (λ h. rw (h, fields-split cs))
-
--- ---- numbers
-
-pub digit-bounds : (c : ℕ) → isDigit c ≡ true → (48 ≤ c) × (c ≤ 57)
-digit-bounds c e = (leb-true 48 c (and-left (leb 48 c) (leb c 57) e), leb-true c 57 (and-right (leb 48 c) (leb c 57) e))
-
-pub digit-at : (text : List ℕ) (i : ℕ) → every isDigit text ≡ true → i < length text → (48 ≤ getD text i 0) × (getD text i 0 ≤ 57)
-digit-at text i e h = digit-bounds (getD text i 0) (every-at isDigit text 0 e i h)
-
--- the digits before i have value n: the rest gives the value of all
-pub record Valued (text : List ℕ) (i n : ℕ) : Type 0 where
-  pub so-far : valueFrom n (drop i text) ≡ value text
-  pub bound : n < 10 ^ i
-
-pub valued-none : (text : List ℕ) → Valued text 0 0
-valued-none text = record { so-far = refl; bound = omega arith }
-
-pub valued-next : (text : List ℕ) (i n : ℕ) → Valued text i n → i < length text → every isDigit text ≡ true → Valued text (i + 1) (10 * n + (getD text i 0 - 48))
-valued-next text i n v h e =
-    let d : (48 ≤ getD text i 0) × (getD text i 0 ≤ 57) = digit-at text i e h in
-    let b : 10 * n + (getD text i 0 - 48) < 10 * 10 ^ i = omega (arith, v .bound, d) in
-    rw add-one (record { so-far = rw (drop-cons text i 0 h) at (v .so-far); bound = rw pow-succ' b })
-
-pub valued-end : (text : List ℕ) (i n : ℕ) → Valued text i n → length text ≤ i → n ≡ value text
-valued-end text i n v h = rw (drop-of-length-le text h) at (v .so-far)
-
--- at most four digits before
-pub valued-small : (text : List ℕ) (i n : ℕ) → Valued text i n → i < 5 → n < 10000
-valued-small text i n v h = lt-of-lt-of-le (v .bound) (pow-le-pow-right {n = 10} (omega arith) {i = i} {j = 4} (omega arith))
-
-pub not-digit-below : (c : ℕ) → c < 48 → isDigit c ≡ false
-not-digit-below c h = rw (lt-leb 48 c h)
-
-pub not-digit-above : (c : ℕ) → 57 < c → isDigit c ≡ false
-not-digit-above c h = let k : 48 ≤ c = omega arith in rw (le-leb 48 c k, lt-leb c 57 h)
-
-pub is-digit : (c : ℕ) → 48 ≤ c → c ≤ 57 → isDigit c ≡ true
-is-digit c h k = rw (le-leb 48 c h, le-leb c 57 k)
-
-module _ (limit : ℕ) (text : List ℕ) where
-  pub too-short : length text < 1 → isNumber limit text ≡ false
-  unfolding isNumber
-  too-short h = rw (lt-leb 1 (length text) h)
-
-  pub too-long : 5 < length text → isNumber limit text ≡ false
-  unfolding isNumber
-  too-long h = let k : 1 ≤ length text = omega arith in rw (le-leb 1 (length text) k, lt-leb (length text) 5 h)
-
-  module _ (h : 1 ≤ length text) (k : length text ≤ 5) where
-    pub no-digits : every isDigit text ≡ false → isNumber limit text ≡ false
-    unfolding isNumber
-    no-digits e = rw (le-leb 1 (length text) h, le-leb (length text) 5 k, e)
-
-    pub by-value : every isDigit text ≡ true → isNumber limit text ≡ leb (value text) limit
-    unfolding isNumber
-    by-value e = rw (le-leb 1 (length text) h, le-leb (length text) 5 k, e) (alone (leb (value text) limit))
-      where
-        alone : (b : Bool) → b && true ≡ b
-        alone true = refl
-        alone false = refl
-
-pub number-parts : (limit : ℕ) (text : List ℕ) → isNumber limit text ≡ true → (length text ≤ 5) × (every isDigit text ≡ true) × (value text ≤ limit)
-unfolding isNumber
-number-parts limit text e =
-    let at = allOf-at (leb 1 (length text) ∷ leb (length text) 5 ∷ every isDigit text ∷ leb (value text) limit ∷ []) e in
-    (leb-true _ _ (at 1), at 2, leb-true _ _ (at 3))
 
 -- ---- the form of a letter
 
@@ -119,10 +50,6 @@ pub record Parsing (line limits values : List ℕ) (at i : ℕ) : Type 0 where
 pub parsing-none : (line limits values : List ℕ) → 1 ≤ length line → Parsing line limits values 1 0
 parsing-none line limits values h = record { fits = refl; read = refl; within = h }
 
--- all from index n on
-pub rest-whole : (n : ℕ) (xs : List ℕ) → take (length xs - n) (drop n xs) ≡ drop n xs
-rest-whole n xs = let h : length (drop n xs) ≤ length xs - n = omega (arith, length-drop n xs) in take-all _ _ h
-
 -- the field that starts after a comma at index `at`, and where it ends
 abbrev pub fieldAfter : List ℕ → ℕ → List ℕ
 fieldAfter line at = take (firstIndex isComma (drop (at + 1) line)) (drop (at + 1) line)
@@ -138,7 +65,7 @@ abbrev pub endAfter : List ℕ → ℕ → ℕ
 endAfter line at = at + 1 + firstIndex isComma (drop (at + 1) line)
 
 rest-split : (line : List ℕ) (at : ℕ) → at < length line → restFields (drop at line) ≡ fieldAfter line at ∷ restFields (drop (endAfter line at) line)
-rest-split line at h = rw (drop-cons line at 0 h, ← add-one at, fields-split (drop (at + 1) line), drop-drop)
+rest-split line at h = rw (drop-cons line at 0 h, ← add-one at, parts-split comma (drop (at + 1) line), drop-drop)
 
 pub end-within : (line : List ℕ) (at : ℕ) → at < length line → endAfter line at ≤ length line
 end-within line at h = omega (arith, first-le isComma (drop (at + 1) line), length-drop (at + 1) line)
@@ -222,7 +149,7 @@ take-one (x ∷ xs) h = refl
 fit-at : (limits : List ℕ) (ts : List (List ℕ)) → numbersFit limits ts ≡ true → (k : ℕ) → k < length limits → getD (map value ts) k 0 ≤ getD limits k 0
 fit-at [] ts e k h = absurd (not-suc-le-zero h)
 fit-at (l ∷ ls) [] e k h = absurd (false≢true e)
-fit-at (l ∷ ls) (t ∷ ts) e zero h = (number-parts l t (and-left (isNumber l t) (numbersFit ls ts) e)) .2
+fit-at (l ∷ ls) (t ∷ ts) e zero h = numeral 5 l t (and-left (isNumber l t) (numbersFit ls ts) e) .small
 fit-at (l ∷ ls) (t ∷ ts) e (suc k) h = fit-at ls ts (and-right (isNumber l t) (numbersFit ls ts) e) k (le-of-suc-le-suc h)
 
 pub values-fitting : (limits : List ℕ) (ts : List (List ℕ)) (fit : Bool) (values : List ℕ) → Values limits ts fit values → fit ≡ true → Fitting limits values
@@ -240,14 +167,14 @@ module _ (line : List ℕ) where
     unfolding parse
     parse-no-letter n =
         let k : length (take (firstIndex isComma line) line) ≡ firstIndex isComma line = length-front _ _ (first-le isComma line) in
-        rw (le-leb _ _ short, fields-split line) (sym (no-letter (take (firstIndex isComma line) line) _ (λ q. n (sym k ∙ q)) forms))
+        rw (le-leb _ _ short, parts-split comma line) (sym (no-letter (take (firstIndex isComma line) line) _ (λ q. n (sym k ∙ q)) forms))
 
     module _ (one : firstIndex isComma line ≡ 1) where
       by-first : parse line ≡ byLimits (getD line 0 0) (limitsOf (getD line 0 0)) (restFields (drop 1 line))
       unfolding parse
       by-first =
           let h : 1 ≤ length line = omega (arith, first-le isComma line) in
-          rw (le-leb _ _ short, fields-split line, one, take-one line h) (by-letter (getD line 0 0) (restFields (drop 1 line)))
+          rw (le-leb _ _ short, parts-split comma line, one, take-one line h) (by-letter (getD line 0 0) (restFields (drop 1 line)))
 
       module _ (fit : Bool) (values : List ℕ) (v : Values (limitsOf (getD line 0 0)) (restFields (drop 1 line)) fit values) where
         pub parse-unfit : fit ≡ false → malformed ≡ parse line

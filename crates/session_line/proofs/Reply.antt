@@ -13,50 +13,12 @@ use borrow.Table.Steps.{cases}
 use Rattle.answer.specs.Coded.{Coded, done, SHAPE}
 use Rattle.memory.specs.Bytes.{overwrite}
 use Rattle.memory.proofs.Bytes.{overwrite-none, overwrite-join-at, overwrite-one, overwrite-first}
-use Rattle.session_line.specs.Grammar.{valueFrom, value, comma, LF}
-use Rattle.session_line.specs.Reply.{digitsIn, decimal, hexDigit, hex, replyLine, printAnswer, printed}
+use Rattle.text.specs.Decimal.{decimal}
+use Rattle.text.specs.Marks.{comma, LF}
+use Rattle.text.proofs.Decimal.{decimal-small, decimal-more}
+use Rattle.session_line.specs.Reply.{hexDigit, hex, replyLine, printAnswer, printed}
 
 -- ---- decimal digits
-
--- any number above n bounds its digits
-digits-same : (k j n : ℕ) → n < k → n < j → digitsIn k n ≡ digitsIn j n
-digits-same zero j n h l = absurd (not-suc-le-zero h)
-digits-same (suc k) zero n h l = absurd (not-suc-le-zero l)
-digits-same (suc k) (suc j) n h l =
-    cases (ltb n 10)
-    (λ e. rw e)
-    (λ e.
-    let t = ltb-false n 10 e in
-    rw (e, digits-same k j (n / 10) (omega arith) (omega arith)))
-
-pub decimal-small : (n : ℕ) → n < 10 → decimal n ≡ (48 + n) ∷ []
-unfolding decimal
-decimal-small n h = rw (lt-ltb n 10 h)
-
-pub decimal-more : (n : ℕ) → 10 ≤ n → decimal n ≡ decimal (n / 10) ++ ((48 + n % 10) ∷ [])
-unfolding decimal
-decimal-more n h = rw (le-ltb n 10 h, digits-same n (suc (n / 10)) (n / 10) (omega arith) (omega arith))
-
-pub length-small : (n : ℕ) → n < 10 → length (decimal n) ≡ 1
-length-small n h = ap length (decimal-small n h)
-
-pub length-more : (n : ℕ) → 10 ≤ n → length (decimal n) ≡ length (decimal (n / 10)) + 1
-length-more n h = ap length (decimal-more n h) ∙ simp length-append
-
-pub decimal-length : (n k : ℕ) → n < 10 ^ k → 1 ≤ k → length (decimal n) ≤ k
-decimal-length n zero h l = absurd (not-suc-le-zero l)
-decimal-length n (suc zero) h l = omega (arith, length-small n (omega arith))
-decimal-length n (suc (suc k)) h l =
-    cases (ltb n 10)
-    (λ e. omega (arith, length-small n (ltb-true n 10 e)))
-    (λ e.
-    let t = ltb-false n 10 e in
-    let q = rw (pow-suc 10 (suc k)) at h in
-    omega (arith, length-more n t, decimal-length (n / 10) (suc k) (omega arith) (omega arith)))
-
--- a number that fits a usize has at most 20 digits
-pub decimal-fits : (n : ℕ) → n < 2 ^ 64 → length (decimal n) ≤ 20
-decimal-fits n h = decimal-length n 20 (omega arith) (omega arith)
 
 -- the digits are laid over a list from the first to the last
 module _ (xs : List ℕ) (a n : ℕ) where
@@ -65,25 +27,6 @@ module _ (xs : List ℕ) (a n : ℕ) where
 
   pub put-more : 10 ≤ n → set (overwrite xs a (decimal (n / 10))) (a + length (decimal (n / 10))) (48 + n % 10) ≡ overwrite xs a (decimal n)
   put-more h = rw (decimal-more n h, overwrite-join-at, overwrite-one)
-
--- reading a printed number gives it back
-value-join : (m : ℕ) (xs : List ℕ) (c : ℕ) → valueFrom m (xs ++ (c ∷ [])) ≡ 10 * valueFrom m xs + (c - 48)
-value-join m [] c = refl
-value-join m (x ∷ xs) c = value-join (10 * m + (x - 48)) xs c
-
-value-digits : (k n : ℕ) → n < k → value (digitsIn k n) ≡ n
-value-digits zero n h = absurd (not-suc-le-zero h)
-value-digits (suc k) n h =
-    cases (ltb n 10)
-    (λ e. rw e (omega arith))
-    (λ e.
-    let t = ltb-false n 10 e in
-    let q : value (digitsIn k (n / 10)) ≡ n / 10 = value-digits k (n / 10) (omega arith) in
-    rw (e, value-join, q) (omega arith))
-
-pub value-decimal : (n : ℕ) → value (decimal n) ≡ n
-unfolding decimal
-value-decimal n = value-digits (suc n) n (omega arith)
 
 -- ---- hexadecimal digits
 

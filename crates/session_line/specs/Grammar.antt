@@ -2,53 +2,19 @@
 use mathlib.Core.Bool.{Bool, true, false, cond, _&&_}
 use mathlib.Core.List.{List, [], _∷_, map}
 use Prim.Native.Char.{code}
-use Prim.Native.Nat.{ℕ, _+_, _-_, _*_}
+use Prim.Native.Nat.{ℕ}
 use lib.Dec.{eqb, leb}
 use lib.ListN.{length, drop}
-use Rattle.scan.specs.Scan.{allOf, every}
-
--- ---- texts between marks
-
--- a byte before the first of these texts
-abbrev pub inFirst : ℕ → List (List ℕ) → List (List ℕ)
-inFirst c [] = (c ∷ []) ∷ []
-inFirst c (t ∷ ts) = (c ∷ t) ∷ ts
-
--- bytes parted at a mark; an empty rest is the texts `last`
-abbrev pub partedAt : ℕ → List (List ℕ) → List ℕ → List (List ℕ)
-partedAt mark last [] = last
-partedAt mark last (c ∷ cs) = cond (eqb c mark) ([] ∷ partedAt mark last cs) (inFirst c (partedAt mark last cs))
+use Rattle.text.specs.Decimal.{value, isNumeral}
+use Rattle.text.specs.Marks.{LF, partedAt, fields}
 
 -- input lines are each ended by LF; the last may lack it, and nothing after a final LF is a line
-abbrev pub LF : ℕ
-LF = code "\n"
-
 abbrev pub lines : List ℕ → List (List ℕ)
 lines = partedAt LF []
 
--- fields are parted by commas, no quoting: a line with n commas has n + 1 fields
-abbrev pub comma : ℕ
-comma = code ","
-
-abbrev pub fields : List ℕ → List (List ℕ)
-fields = partedAt comma ([] ∷ [])
-
--- ---- numbers
-
-abbrev pub isDigit : ℕ → Bool
-isDigit c = leb (code "0") c && leb c (code "9")
-
--- the value of decimal digits, where those before them have value n
-abbrev pub valueFrom : ℕ → List ℕ → ℕ
-valueFrom n [] = n
-valueFrom n (c ∷ cs) = valueFrom (10 * n + (c - code "0")) cs
-
-abbrev pub value : List ℕ → ℕ
-value = valueFrom 0
-
 -- 1 to 5 digits, whose value is at most the limit
-unfoldable pub isNumber : ℕ → List ℕ → Bool
-isNumber limit text = allOf (leb 1 (length text) ∷ leb (length text) 5 ∷ every isDigit text ∷ leb (value text) limit ∷ [])
+abbrev pub isNumber : ℕ → List ℕ → Bool
+isNumber limit = isNumeral 5 limit
 
 -- ---- forms
 

@@ -1,4 +1,3 @@
-pub mod Ascii
 pub mod Grammar
 pub mod Request
 pub mod Reply

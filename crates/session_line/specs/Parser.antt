@@ -7,15 +7,16 @@ use lib.Dec.{eqb}
 use lib.ListN.{length, getD, take}
 use Rattle.session_line.specs.declared.Request.{Request}
 use Rattle.session_line.specs.declared.Request.the-variants.{Format, Mount, Write, Truncate, Sync, Read, Malformed}
-use Rattle.session_line.specs.Grammar.{greatestWrite, greatestRead, fields, comma, value, Form, forms, numbersFit, Command, command, malformed}
+use Rattle.text.specs.Decimal.{value}
+use Rattle.text.specs.Marks.{comma, isMark, restParts}
+use Rattle.session_line.specs.Grammar.{greatestWrite, greatestRead, Form, forms, numbersFit, Command, command, malformed}
 
 abbrev pub isComma : ℕ → Bool
-isComma c = eqb c comma
+isComma = isMark comma
 
 -- the fields after one that ends here: none at the end of the line, or those after the comma
 abbrev pub restFields : List ℕ → List (List ℕ)
-restFields [] = []
-restFields (c ∷ cs) = fields cs
+restFields = restParts comma
 
 -- the limits of the form with this letter; none where there is no such form
 abbrev pub limitsIn : List Form → ℕ → List ℕ

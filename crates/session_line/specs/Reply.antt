@@ -2,22 +2,15 @@
 use mathlib.Core.Bool.{cond}
 use mathlib.Core.List.{List, [], _∷_, _++_}
 use Prim.Native.Char.{code}
-use Prim.Native.Nat.{ℕ, zero, suc, _+_, _-_, _/_, _%_}
+use Prim.Native.Nat.{ℕ, _+_, _-_, _/_, _%_}
 use lib.Dec.{ltb, leb}
 use lib.ListN.{length}
 use Rattle.answer.specs.Coded.{Coded, done, SHAPE}
 use Rattle.answer.specs.Admission.{firstRefusal, ifDone, test}
 use Rattle.memory.specs.Bytes.{overwrite}
-use Rattle.session_line.specs.Ascii.{ascii}
-use Rattle.session_line.specs.Grammar.{LF, comma}
-
--- the decimal digits of n, with no zero before them; the first number is above n, and bounds the digits
-abbrev pub digitsIn : ℕ → ℕ → List ℕ
-digitsIn zero n = []
-digitsIn (suc k) n = cond (ltb n 10) ((code "0" + n) ∷ []) (digitsIn k (n / 10) ++ ((code "0" + n % 10) ∷ []))
-
-unfoldable pub decimal : ℕ → List ℕ
-decimal n = digitsIn (suc n) n
+use Rattle.text.specs.Ascii.{ascii}
+use Rattle.text.specs.Decimal.{decimal}
+use Rattle.text.specs.Marks.{LF, comma}
 
 -- lower-case hexadecimal, two digits for each byte
 abbrev pub hexDigit : ℕ → ℕ

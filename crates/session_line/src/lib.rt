@@ -8,8 +8,9 @@ ghost use lib.ListN.{length, take, drop};
 ghost use Rattle.answer.specs.Coded.{coded};
 ghost use Rattle.memory.specs.Bytes.{overwrite};
 ghost use Rattle.scan.specs.Scan.{every, firstIndex};
-ghost use Rattle.session_line.specs.Grammar.{isDigit, value, isNumber, parse};
-ghost use Rattle.session_line.specs.Reply.{decimal, hexDigit, hex, replyLine, printAnswer, printed};
+ghost use Rattle.text.specs.Decimal.{isDigit, value, decimal};
+ghost use Rattle.session_line.specs.Grammar.{isNumber, parse};
+ghost use Rattle.session_line.specs.Reply.{hexDigit, hex, replyLine, printAnswer, printed};
 ghost use Rattle.session_line.specs.Parser.{isComma, restFields, limitsOf, withValues, Fitting, Values, Within};
 ghost use Rattle.session_line.specs.Request.{spelled};
 

@@ -19,7 +19,7 @@ use Rattle.memory.proofs.Bytes.{overwrite-none, overwrite-join, put-copy}
 use Rattle.memory.proofs.Cases.{split-eq}
 use Rattle.device.specs.Device.{Device}
 use Rattle.device.specs.Admission.{Result, give}
-use Rattle.session_line.specs.Grammar.{LF}
+use Rattle.text.specs.Marks.{LF}
 use Rattle.session_run.specs.declared.PartialLine.{PartialLine}
 use Rattle.session_run.specs.Feeding.{pushed, restarted, Fed, fed, after, feedByte, feed, lastEnd, replyBytes, State, stateOf, feedBlock}
 use Rattle.session_run.specs.Steps.{Stepped}

@@ -2,6 +2,7 @@
 use mathlib.Core.Path.{_≡_, refl, sym, ap, _∙_}
 use mathlib.Core.Bool.{Bool, true, false, cond, false≢true}
 use mathlib.Core.List.{List, []}
+use mathlib.Core.Logic.{⊎-elim}
 use Prim.Native.Nat.{ℕ, _^_, _≤_, _<_, min}
 use native.Mathlib.Omega.{arith}
 use lib.ListN.{length, take, replicate, length-replicate, length-take}
@@ -23,9 +24,12 @@ use Rattle.device.proofs.Reading.{read-counts}
 use Rattle.session_line.specs.declared.Request.{Request}
 use Rattle.session_line.specs.Request.{spelled}
 use Rattle.session_line.specs.Parser.{Within}
-use Rattle.session_line.specs.Grammar.{LF, greatestWrite, greatestRead}
-use Rattle.session_line.specs.Reply.{decimal, replyLine, printAnswer, printed}
-use Rattle.session_line.proofs.Reply.{length-small, decimal-length, decimal-fits, reply-length}
+use Rattle.text.specs.Marks.{LF}
+use Rattle.session_line.specs.Grammar.{greatestWrite, greatestRead}
+use Rattle.text.specs.Decimal.{decimal}
+use Rattle.session_line.specs.Reply.{replyLine, printAnswer, printed}
+use Rattle.text.proofs.Decimal.{length-small, decimal-length, decimal-fits}
+use Rattle.session_line.proofs.Reply.{reply-length}
 use Rattle.session_run.specs.declared.PartialLine.{PartialLine}
 use Rattle.session_run.specs.Session.{Ran, withoutBytes, shown, replyOf, run, runLine}
 use Rattle.session_run.specs.Feeding.{keptBytes, restarted, lineOf, feedByte, replyBytes, runInto}
@@ -82,11 +86,17 @@ shown-few r a reads bytes d m = cases reads (λ e. rw e (m .few e)) (λ e. rw e 
 pub text-fits : (r : Ran) (a : Answer) (reads : Bool) (bytes : List ℕ) (d : Device) → Executed r (coded a) reads bytes d → coded a .count < 2 ^ 64
     → length (replyLine (coded a) (take (cond reads (coded a .count) 0) bytes)) ≤ replyBytes
 text-fits r a reads bytes d m h =
-    let n : length (decimal (coded a .number)) ≡ 1 = length-small (coded a .number) (number-small a) in
+    ⊎-elim
+    (λ small. let n : length (decimal (coded a .number)) ≡ 1 = length-small (coded a .number) small in
     cases reads
     (λ e. let f : coded a .count ≤ greatestRead = m .few e in
     rw e (omega (arith, f, n, reply-length (coded a) (take (coded a .count) bytes), decimal-length (coded a .count) 2 (omega (arith, f)) (omega arith), length-take (coded a .count) bytes)))
-    (λ e. rw e (omega (arith, n, reply-length (coded a) [], decimal-fits (coded a .count) h)))
+    (λ e. rw e (omega (arith, n, reply-length (coded a) [], decimal-fits (coded a .count) h))))
+    (λ two. let n : length (decimal (coded a .number)) ≤ 2 = decimal-length (coded a .number) 2 (omega (arith, two .0)) (omega arith) in
+    let k : length (decimal (coded a .count)) ≡ 1 = length-small (coded a .count) (omega (arith, two .1)) in
+    let none : cond reads (coded a .count) 0 ≡ 0 = cases reads (λ e. rw e (two .1)) (λ e. rw e) in
+    rw none (omega (arith, n, k, reply-length (coded a) [])))
+    (number-small a)
 
 -- and that of a read of so many bytes is as long
 reply-greatest : length (replyLine (done greatestRead) (zeros greatestRead)) ≡ replyBytes

@@ -9,7 +9,8 @@ use Rattle.answer.specs.Admission.{test}
 use Rattle.memory.specs.Bytes.{zeros, overwrite}
 use Rattle.device.specs.Device.{Device}
 use Rattle.device.specs.Admission.{Result, give, admit}
-use Rattle.session_line.specs.Grammar.{greatestLine, LF}
+use Rattle.text.specs.Marks.{LF}
+use Rattle.session_line.specs.Grammar.{greatestLine}
 use Rattle.session_run.specs.declared.PartialLine.{PartialLine}
 use Rattle.session_run.specs.Session.{Ran, replyOf, runLine}
 

@@ -4,7 +4,7 @@ use Prim.Native.Nat.{ℕ, _/_, _<_}
 use native.Mathlib.Omega.{arith}
 use borrow.Fn.Kinds.{In}
 use borrow.Fn.PlainCycle.{Measures, is, falls, and}
-use Rattle.session_line.proofs.Reply.{length-small, length-more, decimal-fits}
+use Rattle.text.proofs.Decimal.{length-small, length-more, decimal-fits}
 use Rattle.session_line.proofs.decimal_length.Reads as decimal-length
 use Rattle.session_line.proofs.decimal_length.Kinds as decimal-length-kinds
 use Rattle.session_line.proofs.+decimal_length.Lts-decimal_length as decimal-length-lts

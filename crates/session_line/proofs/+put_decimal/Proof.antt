@@ -5,7 +5,8 @@ use lib.ListN.{length-set}
 use borrow.Author.Needs.{needs}
 use borrow.Fn.Kinds.{In}
 use borrow.Fn.PlainCycle.{Measures, is, falls, and}
-use Rattle.session_line.proofs.Reply.{put-small, put-more, length-small, length-more}
+use Rattle.text.proofs.Decimal.{length-small, length-more}
+use Rattle.session_line.proofs.Reply.{put-small, put-more}
 use Rattle.session_line.proofs.put_decimal.Reads as put-decimal
 use Rattle.session_line.proofs.put_decimal.Kinds as put-decimal-kinds
 use Rattle.session_line.proofs.+put_decimal.Lts-put_decimal as put-decimal-lts

@@ -4,8 +4,8 @@ use native.Mathlib.Omega.{arith}
 use lib.ListN.{length}
 use borrow.Author.Needs.{needs}
 use Rattle.scan.proofs.Loops.{Checked, checked-none, checked-stop, checked-next, checked-end}
-use Rattle.session_line.specs.Grammar.{isDigit}
-use Rattle.session_line.proofs.Grammar.{not-digit-below, not-digit-above, is-digit}
+use Rattle.text.specs.Decimal.{isDigit}
+use Rattle.text.proofs.Decimal.{not-digit-below, not-digit-above, is-digit}
 use Rattle.session_line.proofs.all_digits.Statement.{statement}
 use Rattle.session_line.proofs.all_digits.Tie as tie
 

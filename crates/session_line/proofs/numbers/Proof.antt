@@ -8,9 +8,12 @@ use lib.Seq.{getD-take}
 use borrow.Author.Needs.{needs}
 use Rattle.memory.proofs.Bytes.{length-front}
 use Rattle.scan.specs.Scan.{firstIndex}
-use Rattle.session_line.specs.Grammar.{value, isNumber}
+use Rattle.memory.proofs.Bytes.{rest-whole}
+use Rattle.text.specs.Decimal.{value}
+use Rattle.text.proofs.Decimal.{numeral}
+use Rattle.session_line.specs.Grammar.{isNumber}
 use Rattle.session_line.specs.Parser.{isComma}
-use Rattle.session_line.proofs.Grammar.{rest-whole, fieldAfter, field-text, length-field, Parsing, parsing-none, parsing-end, parsing-short, parsing-stop, parsing-next, end-within, unfit, number-parts}
+use Rattle.session_line.proofs.Grammar.{fieldAfter, field-text, length-field, Parsing, parsing-none, parsing-end, parsing-short, parsing-stop, parsing-next, end-within, unfit}
 use Rattle.session_line.proofs.numbers.Statement.{statement}
 use Rattle.session_line.proofs.numbers.Tie as tie
 
@@ -88,8 +91,8 @@ is-number-requires c κs = search needs
 value-requires : tie.Need-value-requires Inv-loop μ-loop
 value-requires c κs =
     let q = c .before in
-    let n = number-parts _ _ (sym (field-at q) ∙ c .if2 .taken) in
-    rw (text-at (q .before .before)) (n .0, n .1)
+    let n = numeral 5 _ _ (sym (field-at q) ∙ c .if2 .taken) in
+    rw (text-at (q .before .before)) (n .few, n .digits)
 
 mul-values : tie.Need-mul-values Inv-loop μ-loop
 mul-values c = search needs

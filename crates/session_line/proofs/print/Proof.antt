@@ -5,8 +5,10 @@ use native.Mathlib.Omega.{arith}
 use lib.ListN.{length, length-set}
 use borrow.Author.Needs.{needs}
 use Rattle.answer.specs.Coded.{coded, done}
-use Rattle.session_line.specs.Reply.{decimal, replyLine}
-use Rattle.session_line.proofs.Reply.{decimal-fits, reply-length, reply-put, print-fits, print-short}
+use Rattle.text.specs.Decimal.{decimal}
+use Rattle.text.proofs.Decimal.{decimal-fits}
+use Rattle.session_line.specs.Reply.{replyLine}
+use Rattle.session_line.proofs.Reply.{reply-length, reply-put, print-fits, print-short}
 use Rattle.session_line.proofs.print.Statement.{statement}
 use Rattle.session_line.proofs.print.Tie as tie
 

@@ -3,7 +3,7 @@ use Prim.Native.Nat.{_-_}
 use native.Mathlib.Omega.{arith}
 use lib.ListN.{length}
 use borrow.Author.Needs.{needs}
-use Rattle.session_line.proofs.Grammar.{Valued, valued-none, valued-next, valued-end, valued-small, digit-at}
+use Rattle.text.proofs.Decimal.{Valued, valued-none, valued-next, valued-end, valued-small, digit-at}
 use Rattle.session_line.proofs.value.Statement.{statement}
 use Rattle.session_line.proofs.value.Tie as tie
 
@@ -17,7 +17,7 @@ loop-holds : tie.Need-loop-holds Inv-loop μ-loop
 loop-holds c = valued-none _
 
 mul-n : tie.Need-mul-n Inv-loop μ-loop
-mul-n c = let b = valued-small _ _ _ (c .before .loop .inv) (omega arith) in omega (arith, b)
+mul-n c = let b = valued-small _ _ _ 4 (c .before .loop .inv) (omega arith) in omega (arith, b)
 
 shared-slice-read-widen : tie.Need-shared-slice-read-widen Inv-loop μ-loop
 shared-slice-read-widen c = search needs
@@ -34,7 +34,7 @@ add-n : tie.Need-add-n Inv-loop μ-loop
 add-n c =
     let l = c .before .before .before in
     omega
-    (arith, valued-small _ _ _ (l .loop .inv) (omega arith), c .widen .ensures, digit-at (l .before .before .args .text .now) (l .loop .i) (l .before .before .pre .1) (omega arith))
+    (arith, valued-small _ _ _ 4 (l .loop .inv) (omega arith), c .widen .ensures, digit-at (l .before .before .args .text .now) (l .loop .i) (l .before .before .pre .1) (omega arith))
 
 add-i : tie.Need-add-i Inv-loop μ-loop
 add-i c = search needs

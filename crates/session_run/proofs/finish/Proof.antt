@@ -1,6 +1,6 @@
 use mathlib.Core.List.{[], _∷_}
 use Rattle.memory.proofs.Bytes.{length-front}
-use Rattle.session_line.specs.Grammar.{LF}
+use Rattle.text.specs.Marks.{LF}
 use Rattle.session_run.proofs.Feeding.{last-end}
 -- `session_run::finish` meets its contract: the LF that the last line may lack is fed.
 use mathlib.Core.Path.{_≡_, refl, sym, ap, _∙_}

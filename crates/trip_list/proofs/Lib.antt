@@ -1,0 +1,9 @@
+pub mod Runs
+pub mod Lines
+pub mod Scanning
+pub mod Parsing
+pub mod Spelling
+pub mod Claims
+pub mod Stepping
+pub mod Walking
+pub mod Table

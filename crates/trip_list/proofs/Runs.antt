@@ -1,0 +1,208 @@
+-- Laws of the runs of bytes in front of a text: a number with its comma, a driver with its LF.
+use mathlib.Core.Path.{_≡_, refl, sym, ap, _∙_}
+use mathlib.Core.Bool.{Bool, true, false, _&&_, not, false≢true}
+use mathlib.Core.List.{List, [], _∷_, _++_}
+use Prim.Native.Nat.{ℕ, zero, suc, _+_, _-_, _*_, _^_, _≤_, _<_}
+use native.Mathlib.Omega.{arith}
+use native.Mathlib.Nat.{pow-succ', pow-le-pow-right, lt-of-lt-of-le}
+use native.Mathlib.Numerals.{add-one}
+use lib.Dec.{eqb, leb}
+use lib.ListN.{length, getD, take, drop, List·getD-eq-default, drop-of-length-le, take-append-drop}
+use lib.Seq.{take-suc, drop-cons, take-append-seam, getD-append-seam}
+use borrow.Author.Tests.{eqb-true, le-leb, lt-leb}
+use borrow.Table.Steps.{cases}
+use Rattle.memory.proofs.Bytes.{length-front}
+use Rattle.scan.specs.Scan.{every, firstIndex}
+use Rattle.scan.proofs.Scan.{every-impl, first-le, first-join}
+use Rattle.scan.proofs.Loops.{searched-next, searched-here}
+use Rattle.text.specs.Decimal.{isDigit, value, isNumeral}
+use Rattle.text.specs.Marks.{LF, comma}
+use Rattle.text.proofs.Decimal.{digit-bounds, value-join}
+use Rattle.trip_list.specs.Trip.{greatestNumber, isDriverByte, isNumber, isDriver}
+use Rattle.trip_list.specs.Scanner.{run, front, numberField, driverField, NumberRead, DriverRead}
+
+-- ---- runs
+
+pub run-le : (t : ℕ → Bool) (s : List ℕ) → run t s ≤ length s
+unfolding run
+run-le t s = first-le (λ c. not (t c)) s
+
+pub length-run : (t : ℕ → Bool) (s : List ℕ) → length (front t s) ≡ run t s
+unfolding front
+length-run t s = length-front (run t s) s (run-le t s)
+
+pub front-every : (t : ℕ → Bool) (s : List ℕ) → every t (front t s) ≡ true
+unfolding run front
+front-every t [] = refl
+front-every t (x ∷ xs) = cases (t x) (λ e. rw (e, e) (front-every t xs)) (λ e. rw e)
+
+-- bytes that pass, before one that does not
+pub run-join : (t : ℕ → Bool) (xs : List ℕ) (y : ℕ) (ys : List ℕ) → every t xs ≡ true → t y ≡ false → run t (xs ++ (y ∷ ys)) ≡ length xs
+unfolding run
+run-join t xs y ys e h = first-join (λ c. not (t c)) xs y ys (every-impl t (λ c. not (not (t c))) (λ c q. rw q) xs e) (rw h)
+
+pub front-join : (t : ℕ → Bool) (xs : List ℕ) (y : ℕ) (ys : List ℕ) → every t xs ≡ true → t y ≡ false → front t (xs ++ (y ∷ ys)) ≡ xs
+unfolding front
+front-join t xs y ys e h = rw (run-join t xs y ys e h) (take-append-seam xs (y ∷ ys))
+
+-- a byte other than 0 stands within the list
+pub mark-within : (s : List ℕ) (i c : ℕ) → eqb (getD s i 0) (suc c) ≡ true → i < length s
+mark-within [] i c e = let q : 0 ≡ suc c = eqb-true 0 (suc c) e in absurd (omega arith)
+mark-within (x ∷ xs) zero c e = omega arith
+mark-within (x ∷ xs) (suc i) c e = let h = mark-within xs i c e in omega arith
+
+-- a run, the mark after it, and what comes after that
+pub front-split : (t : ℕ → Bool) (s : List ℕ) (c : ℕ) → getD s (run t s) 0 ≡ c → run t s < length s → s ≡ front t s ++ (c ∷ drop (run t s + 1) s)
+unfolding front
+front-split t s c e h = sym (take-append-drop (run t s) s) ∙ rw (drop-cons s (run t s) 0 h, e, add-one)
+
+-- ---- a search for the end of a run
+
+-- i bytes pass
+pub record Passed (t : ℕ → Bool) (s : List ℕ) (i : ℕ) : Type 0 where
+  pub so-far : run t s ≡ i + run t (drop i s)
+
+pub passed-none : (t : ℕ → Bool) (s : List ℕ) → Passed t s 0
+passed-none t s = record { so-far = omega arith }
+
+module _ (t : ℕ → Bool) (s : List ℕ) (i : ℕ) (p : Passed t s i) where
+  pub passed-here : i < length s → t (getD s i 0) ≡ false → run t s ≡ i
+  unfolding run
+  passed-here h e = sym (searched-here {t = λ c. not (t c)} {xs = s} 0 (record { so-far = p .so-far }) h (rw e))
+
+  pub passed-next : i < length s → t (getD s i 0) ≡ true → Passed t s (i + 1)
+  unfolding run
+  passed-next h e = let q = searched-next {t = λ c. not (t c)} {xs = s} 0 (record { so-far = p .so-far }) h (rw e) in record { so-far = q .so-far }
+
+  pub passed-end : length s ≤ i → run t s ≡ i
+  unfolding run
+  passed-end h = p .so-far ∙ rw (drop-of-length-le s h) (omega arith)
+
+  pub passed-front : run t s ≡ i → front t s ≡ take i s
+  unfolding front
+  passed-front e = rw e
+
+-- ---- a number and the comma after it
+
+regroup : (a b c : Bool) → (a && (true && (true && (b && true)))) && c ≡ a && (b && c)
+regroup true true c = refl
+regroup true false c = refl
+regroup false b c = refl
+
+-- i digits, of value n
+pub record Digits (s : List ℕ) (i n : ℕ) : Type 0 where
+  pub passed : Passed isDigit s i
+  pub valued : n ≡ value (take i s)
+  pub bound : n < 10 ^ i
+  pub few : i ≤ 10
+
+pub digits-none : (s : List ℕ) → Digits s 0 0
+digits-none s = record { passed = passed-none isDigit s; valued = refl; bound = omega arith; few = omega arith }
+
+pub number-false : (s : List ℕ) (n k : ℕ) → false ≡ numberField s → NumberRead s false n k
+number-false s n k e = record { told = e; read = λ h. absurd (false≢true h) }
+
+and-none : (a b : Bool) → b ≡ false → false ≡ a && b
+and-none true b e = sym e
+and-none false b e = refl
+
+module _ (s : List ℕ) (i n : ℕ) (d : Digits s i n) where
+  -- at most nine digits before
+  pub digits-small : i < 10 → n < 1000000000
+  digits-small h = lt-of-lt-of-le (d .bound) (pow-le-pow-right {n = 10} (omega arith) {i = i} {j = 9} (omega arith))
+
+  pub digits-next : i < length s → isDigit (getD s i 0) ≡ true → i < 10 → Digits s (i + 1) (10 * n + (getD s i 0 - 48))
+  digits-next h e l =
+      let b = digit-bounds (getD s i 0) e in
+      let q : 10 * n + (getD s i 0 - 48) < 10 * 10 ^ i = omega (arith, d .bound, b) in
+      record {
+        passed = passed-next isDigit s i (d .passed) h e;
+        valued = rw (add-one i, take-suc s i 0 h, value-join 0 (take i s) (getD s i 0)) (ap (λ (m : ℕ). 10 * m + (getD s i 0 - 48)) (d .valued));
+        bound = rw (add-one i, pow-succ') q;
+        few = omega arith;
+      }
+
+  pub digits-end : length s ≤ i → false ≡ numberField s
+  unfolding numberField
+  digits-end h =
+      let r = passed-end isDigit s i (d .passed) h in
+      and-none (isNumber (front isDigit s)) (eqb (getD s (run isDigit s) 0) comma) (rw (r, List·getD-eq-default s 0 {n = i} h))
+
+  module _ (h : i < length s) where
+    pub digits-many : isDigit (getD s i 0) ≡ true → i ≡ 10 → false ≡ numberField s
+    unfolding numberField isNumeral
+    digits-many e k =
+        let p = passed-next isDigit s i (d .passed) h e in
+        let l : 10 < length (front isDigit s) = omega (arith, p .so-far, length-run isDigit s) in
+        let f : 1 ≤ length (front isDigit s) = omega arith in
+        rw (le-leb _ _ f, lt-leb _ _ l)
+
+    module _ (e : isDigit (getD s i 0) ≡ false) where
+      pub digits-run : i ≡ run isDigit s
+      digits-run = sym (passed-here isDigit s i (d .passed) h e)
+
+      pub digits-value : n ≡ value (front isDigit s)
+      digits-value = d .valued ∙ ap value (sym (passed-front isDigit s i (d .passed) (sym digits-run)))
+
+      pub digits-ended : leb 1 i && (leb n greatestNumber && eqb (getD s i 0) comma) ≡ numberField s
+      unfolding numberField isNumeral
+      digits-ended =
+          let l : length (front isDigit s) ≡ i = length-run isDigit s ∙ sym digits-run in
+          rw (l, front-every isDigit s, le-leb _ _ (d .few), ← digits-value, ← digits-run)
+          (sym (regroup (leb 1 i) (leb n greatestNumber) (eqb (getD s i 0) comma)))
+
+      pub digits-read : (told : Bool) (v k : ℕ) → told ≡ leb 1 i && (leb n greatestNumber && eqb (getD s i 0) comma) → v ≡ n → k ≡ i → NumberRead s told v k
+      digits-read told v k a b f = record { told = a ∙ digits-ended; read = λ _. (b ∙ digits-value, f ∙ digits-run) }
+
+-- ---- a driver and the LF after it
+
+pub driver-false : (s : List ℕ) (n : ℕ) → false ≡ driverField s → DriverRead s false n
+driver-false s n e = record { told = e; read = λ h. absurd (false≢true h) }
+
+module _ (s : List ℕ) (i : ℕ) (p : Passed isDriverByte s i) where
+  pub letters-end : length s ≤ i → false ≡ driverField s
+  unfolding driverField
+  letters-end h =
+      let r = passed-end isDriverByte s i p h in
+      and-none (isDriver (front isDriverByte s)) (eqb (getD s (run isDriverByte s) 0) LF) (rw (r, List·getD-eq-default s 0 {n = i} h))
+
+  module _ (h : i < length s) (e : isDriverByte (getD s i 0) ≡ false) where
+    letters-run : run isDriverByte s ≡ i
+    letters-run = passed-here isDriverByte s i p h e
+
+    letters-length : length (front isDriverByte s) ≡ i
+    letters-length = length-run isDriverByte s ∙ letters-run
+
+    pub letters-none : i < 1 → false ≡ driverField s
+    unfolding driverField isDriver
+    letters-none k = rw (letters-length, lt-leb 1 i k)
+
+    pub letters-many : 16 < i → false ≡ driverField s
+    unfolding driverField isDriver
+    letters-many k = let f : 1 ≤ i = omega arith in rw (letters-length, le-leb 1 i f, lt-leb i 16 k)
+
+    pub letters-read : 1 ≤ i → i ≤ 16 → DriverRead s (eqb (getD s i 0) LF) i
+    unfolding driverField isDriver
+    letters-read f k = record {
+      told = rw (letters-length, le-leb 1 i f, le-leb i 16 k, front-every isDriverByte s, letters-run);
+      read = λ _. sym letters-run;
+    }
+
+-- ---- the bytes of a driver
+
+module _ (c : ℕ) where
+  pub below-digits : c < 48 → false ≡ isDriverByte c
+  unfolding isDriverByte
+  below-digits h = let k : c < 65 = omega arith in rw (lt-leb 48 c h, lt-leb 65 c k)
+
+  pub a-digit : 48 ≤ c → c ≤ 57 → true ≡ isDriverByte c
+  unfolding isDriverByte
+  a-digit h k = rw (le-leb 48 c h, le-leb c 57 k)
+
+  pub between : 57 < c → c < 65 → false ≡ isDriverByte c
+  unfolding isDriverByte
+  between h k = let f : 48 ≤ c = omega arith in rw (le-leb 48 c f, lt-leb c 57 h, lt-leb 65 c k)
+
+  pub from-letters : 57 < c → 65 ≤ c → leb c 90 ≡ isDriverByte c
+  unfolding isDriverByte
+  from-letters h k = let f : 48 ≤ c = omega arith in rw (le-leb 48 c f, lt-leb c 57 h, le-leb 65 c k)

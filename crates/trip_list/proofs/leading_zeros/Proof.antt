@@ -1,0 +1,68 @@
+-- `trip_list::leading_zeros` meets its contract: i zeros are counted.
+use mathlib.Core.Path.{_≡_, sym, _∙_}
+use Prim.Native.Nat.{_+_, _≤_, _-_}
+use native.Mathlib.Omega.{arith}
+use lib.ListN.{length, getD, take}
+use lib.Seq.{getD-take}
+use borrow.Author.Needs.{needs}
+use Rattle.memory.proofs.Bytes.{length-front}
+use Rattle.text.proofs.Decimal.{ZerosTo, zeros-none, zeros-next, zeros-stop, zeros-end}
+use Rattle.trip_list.proofs.leading_zeros.Statement.{statement}
+use Rattle.trip_list.proofs.leading_zeros.Tie as tie
+
+abbrev Inv-loop : tie.InvT-loop
+Inv-loop text digits i₀ i = ZerosTo (take digits text) i × (i ≤ digits) × (digits ≤ length text)
+
+abbrev μ-loop : tie.MeasureT-loop
+μ-loop text digits i₀ i = digits - i
+
+loop-holds : tie.Need-loop-holds Inv-loop μ-loop
+loop-holds c = (zeros-none _, omega arith, c .pre)
+
+add-loop : tie.Need-add-loop Inv-loop μ-loop
+add-loop c = search needs
+
+shared-slice-read-if1 : tie.Need-shared-slice-read-if1 Inv-loop μ-loop
+shared-slice-read-if1 c = search needs
+
+add-i : tie.Need-add-i Inv-loop μ-loop
+add-i c = search needs
+
+loop-less : tie.Need-loop-less Inv-loop μ-loop
+loop-less c = search needs
+
+loop-again : tie.Need-loop-again Inv-loop μ-loop
+loop-again c =
+    let l = c .before .before .before in
+    let a = l .before .args in
+    let n = length-front (a .digits) (a .text .now) (l .loop .inv .2) in
+    (zeros-next _ _ (l .loop .inv .0) (omega (arith, n)) (getD-take (a .digits) (a .text .now) (l .loop .i) 0 (omega arith) ∙ c .if1 .taken), omega arith, l .loop .inv .2)
+
+returns : tie.Need-returns Inv-loop μ-loop
+returns c =
+    let l = c .before .before .before in
+    let a = l .before .args in
+    let n = length-front (a .digits) (a .text .now) (l .loop .inv .2) in
+    zeros-stop _ _ (l .loop .inv .0) (omega (arith, n)) (λ q. c .if1 .left (sym (getD-take (a .digits) (a .text .now) (l .loop .i) 0 (omega arith)) ∙ q))
+
+returns-2 : tie.Need-returns-2 Inv-loop μ-loop
+returns-2 c =
+    let l = c .before in
+    let a = l .before .args in
+    let n = length-front (a .digits) (a .text .now) (l .loop .inv .2) in
+    zeros-end _ _ (l .loop .inv .0) (omega (arith, n))
+
+pub leading-zeros-spec : {M : Type 1} → statement M
+leading-zeros-spec =
+    tie.close
+    (tie.spec
+    Inv-loop
+    μ-loop
+    loop-holds
+    add-loop
+    shared-slice-read-if1
+    add-i
+    loop-less
+    loop-again
+    returns
+    returns-2)

@@ -1,0 +1,5 @@
+pub mod Trip
+pub mod List
+pub mod Reading
+pub mod Scanner
+pub mod Entries

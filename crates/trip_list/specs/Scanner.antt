@@ -1,0 +1,95 @@
+-- What the parts of the code find in front of some bytes.
+use mathlib.Core.Path.{_≡_}
+use mathlib.Core.Bool.{Bool, true, not, _&&_}
+use mathlib.Core.List.{List}
+use Prim.Native.Nat.{ℕ, _+_, _≤_, _<_}
+use lib.Dec.{eqb}
+use lib.ListN.{length, getD, take, drop}
+use Rattle.answer.specs.Coded.{Coded, done, codedRefusal}
+use Rattle.answer.specs.Admission.{firstRefusal, ifDone}
+use Rattle.memory.specs.Bytes.{overwrite}
+use Rattle.scan.specs.Scan.{firstIndex}
+use Rattle.text.specs.Decimal.{isDigit, value, leadingZeros}
+use Rattle.text.specs.Marks.{LF, comma}
+use Rattle.trip_list.specs.declared.Trip as code
+use Rattle.trip_list.specs.declared.Line as line
+use Rattle.trip_list.specs.declared.Step.{Step}
+use Rattle.trip_list.specs.declared.Step.the-variants.{At, Refused}
+use Rattle.trip_list.specs.Trip.{isDriverByte, isNumber, isDriver, field, spellTrip}
+use Rattle.trip_list.specs.List.{refused, parseFrom, parse, answerOf, listAnswer, spelling}
+use Rattle.trip_list.specs.Reading.{firstLine, hasLine, firstTrip, lineLength, driverStart, lineStart, lineTests}
+
+-- how many bytes in front pass the test, and these bytes
+unfoldable pub run : (ℕ → Bool) → List ℕ → ℕ
+run t s = firstIndex (λ c. not (t c)) s
+
+unfoldable pub front : (ℕ → Bool) → List ℕ → List ℕ
+front t s = take (run t s) s
+
+-- digits that are a number, with a comma after them
+unfoldable pub numberField : List ℕ → Bool
+numberField s = isNumber (front isDigit s) && eqb (getD s (run isDigit s) 0) comma
+
+-- letters and digits that are a driver, with LF after them
+unfoldable pub driverField : List ℕ → Bool
+driverField s = isDriver (front isDriverByte s) && eqb (getD s (run isDriverByte s) 0) LF
+
+-- the field in front is a number exactly where `fits`; then these are its value and its digits
+pub record NumberRead (s : List ℕ) (fits : Bool) (n digits : ℕ) : Type 0 where
+  pub told : fits ≡ numberField s
+  pub read : fits ≡ true → (n ≡ value (front isDigit s)) × (digits ≡ run isDigit s)
+
+pub record DriverRead (s : List ℕ) (fits : Bool) (n : ℕ) : Type 0 where
+  pub told : fits ≡ driverField s
+  pub read : fits ≡ true → n ≡ run isDriverByte s
+
+-- the numbers of the line in front, where its kept digits, its metres and its driver begin, and its length
+pub record LineFields (s : List ℕ) (l : line.Line) : Type 0 where
+  pub minute : l .minute ≡ firstTrip s .minute
+  pub metres : l .metres ≡ firstTrip s .metres
+  pub first : l .first ≡ leadingZeros (field 0 (firstLine s))
+  pub second : l .second ≡ length (field 0 (firstLine s)) + 1
+  pub third : l .third ≡ l .second + leadingZeros (field 1 (firstLine s))
+  pub driver : l .driver ≡ driverStart s
+  pub letters : l .letters ≡ length (firstTrip s .driver)
+  pub size : l .length ≡ lineLength s
+
+pub record LineRead (s : List ℕ) (l : line.Line) : Type 0 where
+  pub told : l .fits ≡ hasLine s
+  pub read : l .fits ≡ true → LineFields s l
+
+-- a line of the form starts at the index
+pub record LineAt (list : List ℕ) (at : ℕ) (l : line.Line) : Type 0 where
+  pub form : hasLine (drop at list) ≡ true
+  pub read : LineFields (drop at list) l
+
+-- the bytes do not begin with a line of a minute of at least `least`
+pub record Stopped (least : ℕ) (s : List ℕ) (a : Coded) : Type 0 where
+  pub told : (other : Coded) → firstRefusal (lineTests least s) other ≡ a
+  pub parsed : parseFrom least s ≡ refused a
+
+-- the line at an index, or the refusal of what starts there
+abbrev pub Stepped : List ℕ → ℕ → ℕ → Step → Type 0
+Stepped list at least (At l) = LineAt list at l × (least ≤ l .minute)
+Stepped list at least (Refused r) = Stopped least (drop at list) (codedRefusal r)
+
+unfoldable pub tripAt : List ℕ → ℕ → code.Trip
+tripAt list at = record {
+  minute = firstTrip (drop at list) .minute;
+  metres = firstTrip (drop at list) .metres;
+  driver = at + driverStart (drop at list);
+  letters = length (firstTrip (drop at list) .driver);
+}
+
+unfoldable pub spelledLine : List ℕ → ℕ → List ℕ
+spelledLine list at = spellTrip (firstTrip (drop at list))
+
+-- one pass over a list: its answer; where that is done, the trip at the place
+pub record Surveyed (list : List ℕ) (place : ℕ) (answer : Coded) (t : code.Trip) : Type 0 where
+  pub told : answer ≡ listAnswer list
+  pub found : (n : ℕ) → answer ≡ done n → place < n → t ≡ tripAt list (lineStart place list)
+
+-- one pass that spells: the count of its bytes or the refusal; where it is done, the spelling is laid over the front of xs
+pub record Spelled (list xs ys : List ℕ) (answer : Coded) : Type 0 where
+  pub told : answer ≡ ifDone (answerOf (parse list)) (done (length (spelling list))) (answerOf (parse list))
+  pub laid : (n : ℕ) → answer ≡ done n → ys ≡ overwrite xs 0 (spelling list)

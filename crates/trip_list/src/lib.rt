@@ -1,0 +1,416 @@
+// Trip lists: lines `minute,metres,driver`, each ended by LF, whose minutes rise. A reader, a writer, and a cursor.
+//
+// Nothing here knows of the store: a list is bytes, wherever they come from.
+use answer::Answer;
+use answer::Refusal;
+ghost use mathlib.Core.Path.{_≡_};
+ghost use mathlib.Core.Bool.{_&&_, cond};
+ghost use Prim.Native.Nat.{_+_, _≤_, _<_};
+ghost use lib.Dec.{eqb, leb};
+ghost use lib.ListN.{length, take};
+ghost use Rattle.answer.specs.Coded.{coded};
+ghost use Rattle.memory.specs.Bytes.{overwrite};
+ghost use Rattle.text.specs.Decimal.{leadingZeros};
+ghost use Rattle.text.specs.Marks.{comma};
+ghost use Rattle.trip_list.specs.Trip.{greatestNumber, isDriverByte};
+ghost use Rattle.trip_list.specs.List.{greatestList, writeAnswer, written};
+ghost use Rattle.trip_list.specs.Reading.{read, readTrip, nextTrip};
+ghost use Rattle.trip_list.specs.Scanner.{NumberRead, DriverRead, LineRead, Stepped, LineAt, tripAt, spelledLine, Surveyed, Spelled};
+
+// The longest list.
+pub const MAX_LIST: usize = 4096;
+
+// The greatest minute and the most metres.
+const MAX_NUMBER: usize = 4294967295;
+
+// ---- the fields of a line
+
+// Digits in front of a text. Where they are a number with a comma after it: its value, and how many they are.
+struct Number {
+    fits: bool,
+    value: usize,
+    digits: usize,
+}
+
+fn number_ended(value: usize, digits: usize, mark: u8) -> Number
+    ensures { λ r. ⌜ (r .fits ≡ (leb 1 digits && (leb value greatestNumber && eqb mark comma))) × (r .value ≡ value) × (r .digits ≡ digits) ⌝ }
+{
+    if digits < 1 {
+        return Number {
+            fits: false,
+            value,
+            digits,
+        };
+    }
+    if value > MAX_NUMBER {
+        return Number {
+            fits: false,
+            value,
+            digits,
+        };
+    }
+    Number {
+        fits: mark == b',',
+        value,
+        digits,
+    }
+}
+
+fn number_in_front(text: &[u8]) -> Number
+    ensures { λ r. ⌜ NumberRead (now (text .entry)) (r .fits) (r .value) (r .digits) ⌝ }
+{
+    let mut value = 0;
+    let mut i = 0;
+    while i < text.len() {
+        if text[i] < b'0' {
+            return number_ended(value, i, text[i]);
+        }
+        if text[i] > b'9' {
+            return number_ended(value, i, text[i]);
+        }
+        if i == 10 {
+            return Number {
+                fits: false,
+                value: 0,
+                digits: 0,
+            };
+        }
+        value = 10 * value + number::widen(text[i] - b'0');
+        i += 1;
+    }
+    Number {
+        fits: false,
+        value: 0,
+        digits: 0,
+    }
+}
+
+// How many of the first digits are zeros before the others.
+fn leading_zeros(text: &[u8], digits: usize) -> usize
+    requires { ⌜ digits ≤ length (now text) ⌝ }
+    ensures { λ r. ⌜ r ≡ leadingZeros (take digits (now (text .entry))) ⌝ }
+{
+    let mut i = 0;
+    while i + 1 < digits {
+        if text[i] == b'0' {
+            i += 1;
+        } else {
+            return i;
+        }
+    }
+    i
+}
+
+fn is_driver_byte(c: u8) -> bool
+    ensures { λ r. ⌜ r ≡ isDriverByte c ⌝ }
+{
+    if c < b'0' {
+        return false;
+    }
+    if c <= b'9' {
+        return true;
+    }
+    if c < b'A' {
+        return false;
+    }
+    c <= b'Z'
+}
+
+// Letters and digits in front of a text. Whether they are a driver with LF after it, and how many they are.
+struct Driver {
+    fits: bool,
+    letters: usize,
+}
+
+fn driver_in_front(text: &[u8]) -> Driver
+    ensures { λ r. ⌜ DriverRead (now (text .entry)) (r .fits) (r .letters) ⌝ }
+{
+    let mut i = 0;
+    while i < text.len() {
+        if is_driver_byte(text[i]) {
+            i += 1;
+        } else {
+            if i < 1 {
+                return Driver {
+                    fits: false,
+                    letters: 0,
+                };
+            }
+            if i > 16 {
+                return Driver {
+                    fits: false,
+                    letters: 0,
+                };
+            }
+            return Driver {
+                fits: text[i] == b'\n',
+                letters: i,
+            };
+        }
+    }
+    Driver {
+        fits: false,
+        letters: 0,
+    }
+}
+
+// ---- one line
+
+// The line in front of a text. Where it has the form: its numbers; where the digits of its minute begin that a spelling keeps, where
+// its metres begin, and the digits of these that are kept; where its driver begins, and how long it is; and the length of the line.
+struct Line {
+    fits: bool,
+    minute: usize,
+    metres: usize,
+    first: usize,
+    second: usize,
+    third: usize,
+    driver: usize,
+    letters: usize,
+    length: usize,
+}
+
+fn line_in_front(text: &[u8]) -> Line
+    ensures { λ r. ⌜ LineRead (now (text .entry)) r ⌝ }
+{
+    let minute = number_in_front(text);
+    if minute.fits {
+        let second = minute.digits + 1;
+        let metres = number_in_front(&text[second..]);
+        if metres.fits {
+            let driver_start = second + metres.digits + 1;
+            let driver = driver_in_front(&text[driver_start..]);
+            if driver.fits {
+                return Line {
+                    fits: true,
+                    minute: minute.value,
+                    metres: metres.value,
+                    first: leading_zeros(text, minute.digits),
+                    second,
+                    third: second + leading_zeros(&text[second..], metres.digits),
+                    driver: driver_start,
+                    letters: driver.letters,
+                    length: driver_start + driver.letters + 1,
+                };
+            }
+        }
+    }
+    Line {
+        fits: false,
+        minute: 0,
+        metres: 0,
+        first: 0,
+        second: 0,
+        third: 0,
+        driver: 0,
+        letters: 0,
+        length: 0,
+    }
+}
+
+// The line that starts at an index, or its refusal.
+enum Step {
+    At(Line),
+    Refused(Refusal),
+}
+
+// The line that starts at index `at`, whose minute is to be at least `least`.
+fn line_at(list: &[u8], at: usize, least: usize) -> Step
+    requires { ⌜ at < length (now list) ⌝ }
+    ensures { λ r. ⌜ Stepped (now (list .entry)) at least r ⌝ }
+{
+    let line = line_in_front(&list[at..]);
+    if line.fits {
+        if line.minute < least {
+            return Step::Refused(Refusal::TripOrder);
+        }
+        return Step::At(line);
+    }
+    Step::Refused(Refusal::TripForm)
+}
+
+// ---- the cursor
+
+// A trip of a list: its driver is so many letters from an index of the list on.
+pub struct Trip {
+    pub minute: u32,
+    pub metres: u32,
+    pub driver: u32,
+    pub letters: u32,
+}
+
+// What the reader and the cursor give.
+pub enum Reading {
+    // A count, and a trip.
+    Found(usize, Trip),
+    // A count, and no trip.
+    None(usize),
+    Refused(Refusal),
+}
+
+// The trip of a line that starts at index `at`.
+fn trip_of(list: &[u8], at: usize, line: Line) -> Trip
+    requires { ⌜ LineAt (now list) at line × (length (now list) ≤ greatestList) ⌝ }
+    ensures { λ r. ⌜ r ≡ tripAt (now (list .entry)) at ⌝ }
+{
+    Trip {
+        minute: line.minute as u32,
+        metres: line.metres as u32,
+        driver: (at + line.driver) as u32,
+        letters: line.letters as u32,
+    }
+}
+
+// The trip of the line that starts at index `at`, whose minute is to be at least `least`. The count is the index after that line; it
+// is 0 where the list ends at `at` or before.
+pub fn next_trip(list: &[u8], at: usize, least: usize) -> Reading
+    ensures { λ r. ⌜ read (now (list .entry)) r ≡ nextTrip (now (list .entry)) at least ⌝ }
+{
+    if list.len() > MAX_LIST {
+        return Reading::Refused(Refusal::Range);
+    }
+    if at >= list.len() {
+        return Reading::None(0);
+    }
+    match line_at(list, at, least) {
+        Step::At(line) => Reading::Found(at + line.length, trip_of(list, at, line)),
+        Step::Refused(refusal) => Reading::Refused(refusal),
+    }
+}
+
+// ---- the whole list
+
+// What one pass over a list finds: the answer for it, and where that is done the trip at the place, if there is one.
+struct Findings {
+    answer: Answer,
+    trip: Trip,
+}
+
+fn pick(first: bool, a: Trip, b: Trip) -> Trip
+    ensures { λ r. ⌜ r ≡ cond first a b ⌝ }
+{
+    if first { a } else { b }
+}
+
+fn survey(list: &[u8], place: usize) -> Findings
+    ensures { λ r. ⌜ Surveyed (now (list .entry)) place (coded (r .answer)) (r .trip) ⌝ }
+{
+    let mut trip = Trip {
+        minute: 0,
+        metres: 0,
+        driver: 0,
+        letters: 0,
+    };
+    if list.len() > MAX_LIST {
+        return Findings {
+            answer: Answer::Refused(Refusal::Range),
+            trip,
+        };
+    }
+    let mut at = 0;
+    let mut least = 0;
+    let mut count = 0;
+    while at < list.len() {
+        match line_at(list, at, least) {
+            Step::At(line) => {
+                trip = pick(count == place, trip_of(list, at, line), trip);
+                at += line.length;
+                least = line.minute + 1;
+                count += 1;
+            }
+            Step::Refused(refusal) => {
+                return Findings {
+                    answer: Answer::Refused(refusal),
+                    trip,
+                };
+            }
+        }
+    }
+    Findings {
+        answer: Answer::Done(count),
+        trip,
+    }
+}
+
+// ---- the reader
+
+// The trip at a place, from 0, or none past the last. The count is the number of trips.
+pub fn read(list: &[u8], place: usize) -> Reading
+    ensures { λ r. ⌜ read (now (list .entry)) r ≡ readTrip (now (list .entry)) place ⌝ }
+{
+    let found = survey(list, place);
+    let answer = found.answer;
+    let trip = found.trip;
+    match answer {
+        Answer::Done(count) => {
+            if place < count {
+                return Reading::Found(count, trip);
+            }
+            Reading::None(count)
+        }
+        Answer::Refused(refusal) => Reading::Refused(refusal),
+    }
+}
+
+// ---- the writer
+
+// The one spelling of the line that starts at index `at` is laid over the output from `end` on. The index after it comes back.
+fn put_line(list: &[u8], at: usize, line: Line, output: &mut [u8], end: usize) -> usize
+    requires { ⌜ LineAt (now list) at line × (end + length (spelledLine (now list) at) ≤ length (now output)) ⌝ }
+    ensures { λ r. ⌜ (now (output .exit) ≡ overwrite (now (output .entry)) end (spelledLine (now (list .entry)) at))
+        × (r ≡ end + length (spelledLine (now (list .entry)) at)) ⌝ }
+{
+    let first = at + line.first;
+    let second = at + line.second;
+    let third = at + line.third;
+    let next = at + line.length;
+    let middle = end + (second - first);
+    memory::copy(&mut output[end..], &list[first..second]);
+    memory::copy(&mut output[middle..], &list[third..next]);
+    middle + (next - third)
+}
+
+// The one spelling of a list is laid over the front of the output, line after line, up to the first that is refused. The count is
+// the number of its bytes.
+fn spell_lines(list: &[u8], output: &mut [u8]) -> Answer
+    requires { ⌜ length (now list) ≤ length (now output) ⌝ }
+    ensures { λ r. ⌜ Spelled (now (list .entry)) (now (output .entry)) (now (output .exit)) (coded r) ⌝ }
+{
+    let mut at = 0;
+    let mut least = 0;
+    let mut end = 0;
+    while at < list.len() {
+        match line_at(list, at, least) {
+            Step::At(line) => {
+                end = put_line(list, at, line, output, end);
+                at += line.length;
+                least = line.minute + 1;
+            }
+            Step::Refused(refusal) => return Answer::Refused(refusal),
+        }
+    }
+    Answer::Done(end)
+}
+
+// The list in its one spelling, at the front of a buffer of 4,096 bytes. The count is the number of its bytes. It is spelled into an
+// array first, since a bad line must leave the buffer as it came.
+pub fn write(list: &[u8], buffer: &mut [u8]) -> Answer
+    ensures { λ r. ⌜ (coded r ≡ writeAnswer (now (list .entry)) (now (buffer .entry)))
+        × (now (buffer .exit) ≡ written (now (list .entry)) (now (buffer .entry))) ⌝ }
+{
+    if buffer.len() != MAX_LIST {
+        return Answer::Refused(Refusal::Shape);
+    }
+    if list.len() > MAX_LIST {
+        return Answer::Refused(Refusal::Range);
+    }
+    let mut spelled = [0u8; MAX_LIST];
+    let answer = spell_lines(list, &mut spelled);
+    match answer {
+        Answer::Done(end) => {
+            memory::copy(buffer, &spelled[..end]);
+            Answer::Done(end)
+        }
+        Answer::Refused(refusal) => Answer::Refused(refusal),
+    }
+}
