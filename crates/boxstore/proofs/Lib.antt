@@ -1,3 +1,4 @@
 pub mod Counts
 pub mod Replies
 pub mod Linked
+pub mod Trips

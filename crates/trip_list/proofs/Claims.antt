@@ -174,9 +174,15 @@ parsed-shorter least s [] q = omega arith
 parsed-shorter least s (t ∷ ts) q =
     let f = parsed-first least s t ts q in
     let rest = drop (lineLength s) s in
-    omega
-    (arith, length-append (spellTrip t) (spell ts), spell-shorter s (f .form), ap (λ (u : Trip). length (spellTrip u)) (f .trip), parsed-shorter (t .minute + 1) rest ts (f .rest),
-    length-drop (lineLength s) s, line-within s (f .form))
+    omega (
+      arith,
+      length-append (spellTrip t) (spell ts),
+      spell-shorter s (f .form),
+      ap (λ (u : Trip). length (spellTrip u)) (f .trip),
+      parsed-shorter (t .minute + 1) rest ts (f .rest),
+      length-drop (lineLength s) s,
+      line-within s (f .form),
+    )
 
 parsed-same : (least : ℕ) (s : List ℕ) (ts : List Trip) → parseFrom least s ≡ trips ts → length (spell ts) ≡ length s → spell ts ≡ s
 parsed-same least s [] q e = sym (no-bytes s (sym e))

@@ -10,12 +10,12 @@ use native.Mathlib.Numerals.{add-one}
 use lib.Dec.{eqb, ltb, leb}
 use lib.ListN.{length, getD, take, drop, length-append, length-drop, drop-of-length-le}
 use lib.Seq.{drop-cons, drop-drop}
-use borrow.Author.Tests.{leb-true, leb-false, lt-ltb, le-ltb, le-leb, lt-leb, ltb-true, ltb-false, ne-eqb}
+use borrow.Author.Tests.{eqb-true, leb-true, leb-false, lt-ltb, le-ltb, le-leb, lt-leb, ltb-true, ltb-false, ne-eqb}
 use borrow.Table.Steps.{cases}
 use Rattle.answer.specs.Coded.{Coded, done, RANGE, TRIP-FORM, TRIP-ORDER}
 use Rattle.memory.proofs.Bytes.{length-front}
 use Rattle.scan.specs.Scan.{firstIndex}
-use Rattle.scan.proofs.Scan.{and-left, first-le}
+use Rattle.scan.proofs.Scan.{and-left, and-right, first-le}
 use Rattle.text.specs.Marks.{LF, isMark, parts, restParts}
 use Rattle.text.proofs.Marks.{parts-split}
 use Rattle.trip_list.specs.Trip.{Trip, hasForm, tripOf}
@@ -159,10 +159,10 @@ module _ (least : ℕ) (s : List ℕ) where
 
 -- ---- the answer for a list
 
--- no refusal is the number 0
+-- a refusal has a number other than 0, and count 0
 honest : Parsed → Bool
 honest (trips ts) = true
-honest (refused a) = ltb 0 (a .number)
+honest (refused a) = ltb 0 (a .number) && eqb (a .count) 0
 
 honest-before : (t : Trip) (p : Parsed) → honest p ≡ true → honest (before t p) ≡ true
 unfolding honest
@@ -189,6 +189,18 @@ unfolding honest
 accepted-of (trips ts) n h e = refl
 accepted-of (refused a) n h e = absurd (false≢true (rw e at h))
 
+-- no list has more trips than bytes
+pub few-trips : (least : ℕ) (s : List ℕ) (ts : List Trip) → parseFrom least s ≡ trips ts → length ts ≤ length s
+few-trips least s [] e = omega arith
+few-trips least s (t ∷ ts) e =
+    let f = parsed-first least s t ts e in
+    omega (arith, few-trips (t .minute + 1) (drop (lineLength s) s) ts (f .rest), length-drop (lineLength s) s, line-some s, f .some)
+
+counted-few : (p : Parsed) (n : ℕ) → honest p ≡ true → ((ts : List Trip) → p ≡ trips ts → length ts ≤ n) → answerOf p .count ≤ n
+unfolding honest
+counted-few (trips ts) n h few = few ts refl
+counted-few (refused a) n h few = omega (arith, eqb-true (a .count) 0 (and-right (ltb 0 (a .number)) (eqb (a .count) 0) h))
+
 pub accepted-count : (p : Parsed) (n : ℕ) → p ≡ trips (tripsOf p) → answerOf p ≡ done n → length (tripsOf p) ≡ n
 accepted-count (trips ts) n a e = ap (λ (c : Coded). c .count) e
 accepted-count (refused b) n a e = not-both (refused b) [] b a refl
@@ -201,6 +213,16 @@ module _ (list : List ℕ) where
   pub list-parsed : length list ≤ greatestList → answerOf (parse list) ≡ listAnswer list
   unfolding listAnswer
   list-parsed h = rw (le-leb _ _ h)
+
+  pub list-count : listAnswer list .count ≤ greatestList
+  unfolding parse
+  list-count =
+      cases (leb (length list) greatestList)
+      (λ l.
+      let h = leb-true (length list) greatestList l in
+      let c = counted-few (parseFrom 0 list) (length list) (honest-list list) (few-trips 0 list) in
+      omega (arith, c, ap (λ (a : Coded). a .count) (list-parsed h)))
+      (λ l. omega (arith, ap (λ (a : Coded). a .count) (list-range (leb-false (length list) greatestList l))))
 
   module _ (n : ℕ) (e : listAnswer list ≡ done n) where
     pub accepted-short : length list ≤ greatestList

@@ -192,7 +192,15 @@ module _ (s : List ℕ) (b : Bool) (v i : ℕ) (r : NumberRead s b v i) where
 
                 pub line-found : (a c : ℕ) → a ≡ leadingZeros (take i s) → c ≡ leadingZeros (take j u)
                     → LineRead s (record {
-                      fits = true; minute = v; metres = k; first = a; second = i + 1; third = i + 1 + c; driver = i + 1 + j + 1; letters = n; length = i + 1 + j + 1 + n + 1;
+                      fits = true;
+                      minute = v;
+                      metres = k;
+                      first = a;
+                      second = i + 1;
+                      third = i + 1 + c;
+                      driver = i + 1 + j + 1;
+                      letters = n;
+                      length = i + 1 + j + 1 + n + 1;
                     })
                 unfolding front
                 line-found a c ea ec =

@@ -10,7 +10,7 @@ use native.Mathlib.Numerals.{add-one}
 use lib.Dec.{eqb, ltb, leb}
 use lib.ListN.{length, take, drop, length-append, length-drop, drop-of-length-le}
 use lib.Seq.{drop-drop, drop-append-add, take-at}
-use borrow.Author.Tests.{eq-eqb, ne-eqb, lt-ltb, le-ltb, le-leb, lt-leb}
+use borrow.Author.Tests.{eq-eqb, ne-eqb, lt-ltb, le-ltb, le-leb, lt-leb, leb-true, leb-false}
 use borrow.Table.Steps.{cases}
 use Rattle.answer.specs.declared.Answer.{Answer}
 use Rattle.answer.specs.declared.Answer.the-variants as answers
@@ -32,7 +32,7 @@ use Rattle.trip_list.specs.declared.Step.the-variants.{At, Refused}
 use Rattle.trip_list.specs.Scanner.{LineFields, LineAt, Stopped, Stepped, tripAt, spelledLine, Surveyed, Spelled}
 use Rattle.trip_list.proofs.Lines.{lineOf, minuteOf, metresOf, driverOf, Texts, texts, line-driver}
 use Rattle.trip_list.proofs.Claims.{never-longer}
-use Rattle.trip_list.proofs.Parsing.{Accepted, line-some, line-within, from-end, from-next, First, parsed-first, accepted-trips, list-parsed, list-range}
+use Rattle.trip_list.proofs.Parsing.{Accepted, line-some, line-within, from-end, from-next, First, parsed-first, accepted-trips, list-parsed, list-range, list-count}
 use Rattle.trip_list.proofs.Spelling.{spell-shorter, spell-same}
 
 refused-done : {A : Type 0} (r : Refusal) (n : ℕ) → codedRefusal r ≡ done n → A
@@ -323,7 +323,36 @@ module _ (list : List ℕ) (at least : ℕ) where
           let some : 0 < at + lineLength s = omega (arith, line-some s) in
           rw (le-leb _ _ short, lt-ltb _ _ inside, a .form, le-leb _ _ up, lt-ltb _ _ some, a .read .size, q, placed-at list at (a .form))
 
+  -- the count is within the list
+  pub next-count : nextAnswer list at least .count ≤ greatestList
+  unfolding nextAnswer
+  next-count =
+      let s = drop at list in
+      cases (leb (length list) greatestList)
+      (λ short. cases (ltb at (length list))
+      (λ some. cases (hasLine s)
+      (λ f. cases (leb least (firstTrip s .minute))
+      (λ l. rw (short, some, f, l) (omega (arith, line-within s f, length-drop at list, line-some s, leb-true (length list) greatestList short)))
+      (λ l. rw (short, some, f, l) (omega arith)))
+      (λ f. rw (short, some, f) (omega arith)))
+      (λ none. rw (short, none) (omega arith)))
+      (λ long. rw long (omega arith))
+
 -- ---- what the writer gives
+
+pub write-count : (list buffer : List ℕ) → writeAnswer list buffer .count ≤ greatestList
+unfolding writeAnswer
+write-count list buffer =
+    cases (eqb (length buffer) greatestList)
+    (λ shape. cases (eqb (listAnswer list .number) 0)
+    (λ d. cases (leb (length list) greatestList)
+    (λ short. rw (shape, d) (omega (arith, never-longer list, leb-true (length list) greatestList short)))
+    (λ long. absurd (range-refused (leb-false (length list) greatestList long) d)))
+    (λ d. rw (shape, d) (list-count list)))
+    (λ shape. rw shape (omega arith))
+  where
+    range-refused : greatestList < length list → eqb (listAnswer list .number) 0 ≡ true → ⊥
+    range-refused h e = false≢true (ap (λ (a : Coded). eqb (a .number) 0) (list-range list h) ∙ e)
 
 module _ (list buffer : List ℕ) where
   pub write-shape : length buffer ≢ greatestList → (SHAPE ≡ writeAnswer list buffer) × (buffer ≡ written list buffer)

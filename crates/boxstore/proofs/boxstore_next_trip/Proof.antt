@@ -1,30 +1,27 @@
+-- `boxstore::boxstore_next_trip` meets its contract: the call of trip_list, with its trip as four numbers.
+use native.Mathlib.Omega.{arith}
 use borrow.Author.Needs.{needs}
+use Rattle.boxstore.proofs.Trips.{numbers-shape, numbers-call, next-trip-fits}
 use Rattle.boxstore.proofs.boxstore_next_trip.Statement.{statement}
 use Rattle.boxstore.proofs.boxstore_next_trip.Tie as tie
-use Rattle.boxstore.proofs.boxstore_next_trip.Reads as reads
-use Rattle.boxstore.proofs.boxstore_next_trip.Lts as lts
-use Rattle.boxstore.proofs.put_reading.Reads as put-reading-reads
-use Rattle.trip_list.proofs.next_trip.Reads as next-trip-reads
 
--- src/lib.rt:274:9
 returns : tie.Need-returns
-returns c = ?
+returns c = numbers-shape _ _ (c .if1 .taken)
 
--- src/lib.rt:276:23
 next-trip-requires : tie.Need-next-trip-requires
 next-trip-requires c κs = search needs
 
--- src/lib.rt:276:5
 put-reading-requires : tie.Need-put-reading-requires
-put-reading-requires c κs = ?
+put-reading-requires c κs = (omega arith, next-trip-fits _ (c .before .next-trip .result) _ _ (c .before .next-trip .ensures))
 
--- src/lib.rt:269:1
 same-length : tie.Need-same-length
 same-length c = search needs
 
--- src/lib.rt:269:1
 returns-2 : tie.Need-returns-2
-returns-2 c = ?
+returns-2 c =
+    let k = c .before .before .before .before .before .before .before .before .args in
+    let p = c .before .before .put-reading .ensures in
+    numbers-call (k .trip .now) _ (omega arith) (k .list .now) (c .before .before .before .before .next-trip .result) (c .before .before .before .before .next-trip .ensures) _ _ (p .0) (p .1)
 
 pub boxstore-next-trip-spec : {M : Type 1} → statement M
 boxstore-next-trip-spec =

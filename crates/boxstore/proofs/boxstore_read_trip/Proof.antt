@@ -1,30 +1,27 @@
+-- `boxstore::boxstore_read_trip` meets its contract: the call of trip_list, with its trip as four numbers.
+use native.Mathlib.Omega.{arith}
 use borrow.Author.Needs.{needs}
+use Rattle.boxstore.proofs.Trips.{numbers-shape, numbers-call, read-trip-fits}
 use Rattle.boxstore.proofs.boxstore_read_trip.Statement.{statement}
 use Rattle.boxstore.proofs.boxstore_read_trip.Tie as tie
-use Rattle.boxstore.proofs.boxstore_read_trip.Reads as reads
-use Rattle.boxstore.proofs.boxstore_read_trip.Lts as lts
-use Rattle.boxstore.proofs.put_reading.Reads as put-reading-reads
-use Rattle.trip_list.proofs.read.Reads as read-reads
 
--- src/lib.rt:263:9
 returns : tie.Need-returns
-returns c = ?
+returns c = numbers-shape _ _ (c .if1 .taken)
 
--- src/lib.rt:265:23
 read-requires : tie.Need-read-requires
 read-requires c κs = search needs
 
--- src/lib.rt:265:5
 put-reading-requires : tie.Need-put-reading-requires
-put-reading-requires c κs = ?
+put-reading-requires c κs = (omega arith, read-trip-fits _ (c .before .read .result) _ (c .before .read .ensures))
 
--- src/lib.rt:258:1
 same-length : tie.Need-same-length
 same-length c = search needs
 
--- src/lib.rt:258:1
 returns-2 : tie.Need-returns-2
-returns-2 c = ?
+returns-2 c =
+    let k = c .before .before .before .before .before .before .before .before .args in
+    let p = c .before .before .put-reading .ensures in
+    numbers-call (k .trip .now) _ (omega arith) (k .list .now) (c .before .before .before .before .read .result) (c .before .before .before .before .read .ensures) _ _ (p .0) (p .1)
 
 pub boxstore-read-trip-spec : {M : Type 1} → statement M
 boxstore-read-trip-spec =

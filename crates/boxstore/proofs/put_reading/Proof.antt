@@ -1,65 +1,65 @@
+-- `boxstore::put_reading` meets its contract: each case of what was read.
+use mathlib.Core.Path.{_≡_, refl, sym, ap, _∙_}
+use native.Mathlib.Omega.{arith}
 use borrow.Author.Needs.{needs}
+use Rattle.answer.specs.declared.Answer.the-variants as answers
+use Rattle.answer.specs.Coded.{coded}
+use Rattle.trip_list.specs.Reading.{Given, read}
+use Rattle.boxstore.specs.Interface.{wordOf, overNumbers}
+use Rattle.boxstore.proofs.Trips.{four, read-of, count-fits}
 use Rattle.boxstore.proofs.put_reading.Statement.{statement}
 use Rattle.boxstore.proofs.put_reading.Tie as tie
-use Rattle.boxstore.proofs.put_reading.Reads as reads
-use Rattle.boxstore.proofs.put_reading.Lts as lts
-use Rattle.boxstore.proofs.answer_word.Reads as answer-word-reads
 
--- src/lib.rt:245:24
 enum-known-reading : tie.Need-enum-known-reading
 enum-known-reading c = search needs
 
--- src/lib.rt:246:13
 slice-write-trip : tie.Need-slice-write-trip
 slice-write-trip c = search needs
 
--- src/lib.rt:247:13
 slice-write-trip-2 : tie.Need-slice-write-trip-2
 slice-write-trip-2 c = search needs
 
--- src/lib.rt:248:13
 slice-write-trip-3 : tie.Need-slice-write-trip-3
 slice-write-trip-3 c = search needs
 
--- src/lib.rt:249:13
 slice-write-trip-4 : tie.Need-slice-write-trip-4
 slice-write-trip-4 c = search needs
 
--- src/lib.rt:250:13
 cast-result : tie.Need-cast-result
-cast-result c = ?
+cast-result c = let k = c .before .before .before .before .before in omega (arith, count-fits (k .args .list .now) _ _ _ (c .before .reading .given .1) refl (k .pre .1))
 
--- src/lib.rt:252:23
 enum-known-reading-2 : tie.Need-enum-known-reading-2
 enum-known-reading-2 c = search needs
 
--- src/lib.rt:252:33
 cast-result-2 : tie.Need-cast-result-2
-cast-result-2 c = ?
+cast-result-2 c = let k = c .before .before .before .before .before in omega (arith, count-fits (k .args .list .now) _ _ _ (c .before .reading2 .given .1) refl (k .pre .1))
 
--- src/lib.rt:253:26
 enum-known-reading-3 : tie.Need-enum-known-reading-3
 enum-known-reading-3 c = search needs
 
--- src/lib.rt:253:38
 answer-word-requires : tie.Need-answer-word-requires
-answer-word-requires c κs = ?
+answer-word-requires c κs = let k = c .before .before .before .before .before in count-fits (k .args .list .now) _ _ _ (c .before .reading3 .given .1) refl (k .pre .1)
 
--- src/lib.rt:239:1
 same-length : tie.Need-same-length
 same-length c = search needs
 
--- src/lib.rt:239:1
 returns : tie.Need-returns
-returns c = ?
+returns c =
+    let k = c .before .before .before .before .before in
+    let q = sym (read-of (k .args .list .now) _ _ (c .before .reading .given .1)) in
+    rw (← q) (omega arith, four (k .args .trip .now) (k .pre .0) _ _ _ _)
 
--- src/lib.rt:239:1
 returns-2 : tie.Need-returns-2
-returns-2 c = ?
+returns-2 c =
+    let k = c .before .before .before .before .before in
+    let q = sym (read-of (k .args .list .now) _ _ (c .before .reading2 .given .1)) in
+    rw (← q) (omega arith, refl)
 
--- src/lib.rt:239:1
 returns-3 : tie.Need-returns-3
-returns-3 c = ?
+returns-3 c =
+    let k = c .before .before .before .before .before .before in
+    let q = sym (read-of (k .args .list .now) _ _ (c .before .before .reading3 .given .1)) in
+    rw (← q) (c .answer-word .ensures, refl)
 
 pub put-reading-spec : {M : Type 1} → statement M
 put-reading-spec =

@@ -85,9 +85,11 @@ same-length c = search needs
 returns : tie.Need-returns
 returns c =
     let k = c .before .before .before .before .before .before .before .before .before .before .before .before .before .before .before .before in
-    let a = k .args in
-    (put-pieces (a .list .now) (a .at) (a .line) (k .pre .0) (a .output .now) (c .before .before .before .before .before .before .before .copy .last .0) (c .before .before .copy2 .last .0) (a .end) _ refl
-    (c .before .before .before .before .before .before .before .copy .ensures) (c .before .before .copy2 .ensures) (k .pre .1), omega (arith, order k, spelled-length _ _ _ (k .pre .0)))
+    let a = k .args in (
+      put-pieces (a .list .now) (a .at) (a .line) (k .pre .0) (a .output .now) (c .before .before .before .before .before .before .before .copy .last .0) (c .before .before .copy2 .last .0) (a .end) _ refl
+          (c .before .before .before .before .before .before .before .copy .ensures) (c .before .before .copy2 .ensures) (k .pre .1),
+      omega (arith, order k, spelled-length _ _ _ (k .pre .0)),
+    )
 
 pub put-line-spec : {M : Type 1} → statement M
 put-line-spec =
