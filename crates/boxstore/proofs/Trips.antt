@@ -7,8 +7,8 @@ use native.Mathlib.Omega.{arith}
 use lib.ListN.{length, set}
 use borrow.Author.Tests.{eq-eqb, ne-eqb}
 use Rattle.answer.specs.Coded.{Coded}
-use Rattle.trip_list.specs.declared.Reading.{Reading}
-use Rattle.trip_list.specs.Reading.{Given, read, readTrip, nextTrip}
+use Rattle.trip_list.specs.declared.Lookup.{Lookup}
+use Rattle.trip_list.specs.Lookup.{Given, looked, readTrip, nextTrip}
 use Rattle.trip_list.proofs.Parsing.{list-count}
 use Rattle.trip_list.proofs.Walking.{next-count}
 use Rattle.boxstore.specs.Interface.{wordOf, reply, inWord, overNumbers, inNumbers}
@@ -22,11 +22,11 @@ four (x ∷ y ∷ z ∷ []) h a b c d = absurd (omega arith)
 four (x ∷ y ∷ z ∷ w ∷ u ∷ us) h a b c d = absurd (omega arith)
 
 -- what a contract says of what was read, said of the case that it is
-pub read-of : (list : List ℕ) (r s : Reading) → r ≡ s → read list r ≡ read list s
-read-of list r s e = ap (read list) e
+pub looked-of : (list : List ℕ) (r s : Lookup) → r ≡ s → looked list r ≡ looked list s
+looked-of list r s e = ap (looked list) e
 
-pub count-fits : (list : List ℕ) (r s : Reading) (n : ℕ) → r ≡ s → n ≡ read list s .answer .count → read list r .answer .count < 65536 → n < 65536
-count-fits list r s n e q h = omega (arith, ap (λ (x : Reading). read list x .answer .count) e)
+pub count-fits : (list : List ℕ) (r s : Lookup) (n : ℕ) → r ≡ s → n ≡ looked list s .answer .count → looked list r .answer .count < 65536 → n < 65536
+count-fits list r s n e q h = omega (arith, ap (λ (x : Lookup). looked list x .answer .count) e)
 
 -- ---- the whole call
 
@@ -35,16 +35,16 @@ module _ (numbers : List ℕ) (g : Given) where
   unfolding inNumbers
   numbers-shape h = rw (ne-eqb (length numbers) 4 h)
 
-  pub numbers-call : length numbers ≡ 4 → (list : List ℕ) (r : Reading) → read list r ≡ g → (w : ℕ) (after : List ℕ)
-      → w ≡ wordOf (read list r .answer) → after ≡ overNumbers (read list r .trip) numbers → reply w after ≡ inWord (inNumbers g numbers)
+  pub numbers-call : length numbers ≡ 4 → (list : List ℕ) (r : Lookup) → looked list r ≡ g → (w : ℕ) (after : List ℕ)
+      → w ≡ wordOf (looked list r .answer) → after ≡ overNumbers (looked list r .trip) numbers → reply w after ≡ inWord (inNumbers g numbers)
   unfolding inNumbers
   numbers-call h list r e w after ew ea = rw (eq-eqb (length numbers) 4 h, ew, ea, e)
 
-module _ (list : List ℕ) (r : Reading) where
-  pub read-trip-fits : (place : ℕ) → read list r ≡ readTrip list place → read list r .answer .count < 65536
+module _ (list : List ℕ) (r : Lookup) where
+  pub read-trip-fits : (place : ℕ) → looked list r ≡ readTrip list place → looked list r .answer .count < 65536
   unfolding readTrip
   read-trip-fits place e = omega (arith, ap (λ (g : Given). g .answer .count) e, list-count list)
 
-  pub next-trip-fits : (at least : ℕ) → read list r ≡ nextTrip list at least → read list r .answer .count < 65536
+  pub next-trip-fits : (at least : ℕ) → looked list r ≡ nextTrip list at least → looked list r .answer .count < 65536
   unfolding nextTrip
   next-trip-fits at least e = omega (arith, ap (λ (g : Given). g .answer .count) e, next-count list at least)

@@ -14,7 +14,7 @@ use Rattle.device.specs.Sizes.{sizesAnswer, sizesAfter}
 use Rattle.state_bytes.specs.Encoding.{encode}
 use Rattle.state_bytes.specs.InPlace.{stateShape}
 use Rattle.trip_list.specs.List.{writeAnswer, written}
-use Rattle.trip_list.specs.Reading.{Placed, Given}
+use Rattle.trip_list.specs.Lookup.{Located, Given}
 
 -- ---- answers
 
@@ -58,11 +58,11 @@ truncateSizes greatest n sizes =
 -- ---- trip lists
 
 -- a trip as four numbers: minute, metres, where its driver begins in the list, and how long that is
-abbrev pub tripNumbers : Placed → List ℕ
+abbrev pub tripNumbers : Located → List ℕ
 tripNumbers p = p .trip .minute ∷ p .trip .metres ∷ p .driver ∷ p .letters ∷ []
 
 -- four numbers become those of the trip that is given; where there is none they stay
-abbrev pub overNumbers : List Placed → List ℕ → List ℕ
+abbrev pub overNumbers : List Located → List ℕ → List ℕ
 overNumbers [] numbers = numbers
 overNumbers (p ∷ ps) numbers = tripNumbers p
 

@@ -6,7 +6,7 @@
 use answer::Answer;
 use device::FileSizes;
 use device::Span;
-use trip_list::Reading;
+use trip_list::Lookup;
 ghost use mathlib.Core.Path.{_≡_};
 ghost use mathlib.Core.List.{List};
 ghost use Prim.Native.Nat.{ℕ, _<_};
@@ -19,7 +19,7 @@ ghost use Rattle.device.specs.Truncating.{truncate};
 ghost use Rattle.device.specs.Syncing.{sync};
 ghost use Rattle.device.specs.Mounting.{mount, format};
 ghost use Rattle.state_bytes.specs.InPlace.{borrowed, onBytes, readBytes, lookCountBytes, lookSpanBytes};
-ghost use Rattle.trip_list.specs.Reading.{read, readTrip, nextTrip};
+ghost use Rattle.trip_list.specs.Lookup.{looked, readTrip, nextTrip};
 ghost use Rattle.boxstore.specs.Interface.{wordOf, reply, inWord, spanWord, downBytes, truncateSizes, overNumbers, inNumbers, writeTrips};
 ghost use Rattle.media.specs.Moments.{mediaAtEntry, mediaAtExit};
 ghost use Rattle.state_bytes.specs.Moments.{borrowedAtEntry, borrowedAtExit};
@@ -236,21 +236,21 @@ pub extern "C" fn boxstore_trim(media: &mut [u8], sizes: &mut [u32], file: usize
 // ---- trip lists
 
 // What was read, as a word; a trip that was found is put into the four numbers.
-fn put_reading(list: &[u8], reading: Reading, trip: &mut [u32]) -> u32
-    requires { ⌜ (length (now trip) ≡ 4) × (read (now list) reading .answer .count < 65536) ⌝ }
-    ensures { λ r. ⌜ (r ≡ wordOf (read (now (list .entry)) reading .answer))
-        × (now (trip .exit) ≡ overNumbers (read (now (list .entry)) reading .trip) (now (trip .entry))) ⌝ }
+fn put_lookup(list: &[u8], found: Lookup, trip: &mut [u32]) -> u32
+    requires { ⌜ (length (now trip) ≡ 4) × (looked (now list) found .answer .count < 65536) ⌝ }
+    ensures { λ r. ⌜ (r ≡ wordOf (looked (now (list .entry)) found .answer))
+        × (now (trip .exit) ≡ overNumbers (looked (now (list .entry)) found .trip) (now (trip .entry))) ⌝ }
 {
-    match reading {
-        Reading::Found(count, found) => {
-            trip[0] = found.minute;
-            trip[1] = found.metres;
-            trip[2] = found.driver;
-            trip[3] = found.letters;
+    match found {
+        Lookup::Found(count, t) => {
+            trip[0] = t.minute;
+            trip[1] = t.metres;
+            trip[2] = t.driver;
+            trip[3] = t.letters;
             count as u32
         }
-        Reading::None(count) => count as u32,
-        Reading::Refused(refusal) => answer_word(Answer::Refused(refusal)),
+        Lookup::None(count) => count as u32,
+        Lookup::Refused(refusal) => answer_word(Answer::Refused(refusal)),
     }
 }
 
@@ -262,7 +262,7 @@ pub extern "C" fn boxstore_read_trip(list: &[u8], place: usize, trip: &mut [u32]
     if trip.len() != 4 {
         return SHAPE;
     }
-    put_reading(list, trip_list::read(list, place), trip)
+    put_lookup(list, trip_list::read(list, place), trip)
 }
 
 // Next trip: the trip of the line that starts at an index, as four numbers; the count is the index after that line, 0 at the end.
@@ -273,7 +273,7 @@ pub extern "C" fn boxstore_next_trip(list: &[u8], at: usize, least: usize, trip:
     if trip.len() != 4 {
         return SHAPE;
     }
-    put_reading(list, trip_list::next_trip(list, at, least), trip)
+    put_lookup(list, trip_list::next_trip(list, at, least), trip)
 }
 
 // Write trips: a list in its one spelling, at the front of the buffer; counts its bytes.

@@ -16,8 +16,8 @@ use Rattle.text.specs.Decimal.{value, decimal}
 use Rattle.text.specs.Marks.{LF, comma}
 use Rattle.text.proofs.Decimal.{Numeral, numeral, decimal-numeral, value-decimal}
 use Rattle.trip_list.specs.Trip.{Trip, trip, greatestNumber, isNumber, isDriver, tripOf, spellTrip, spell, inLimits}
-use Rattle.trip_list.specs.List.{Parsed, trips, refused, before, parseFrom, parse, tripsOf, greatestList, answerOf, listAnswer, spelling, writeAnswer, written, validFrom, valid}
-use Rattle.trip_list.specs.Reading.{hasLine, firstTrip, lineLength}
+use Rattle.trip_list.specs.List.{Parsed, trips, refusal, before, parseFrom, parse, tripsOf, greatestList, answerOf, listAnswer, spelling, writeAnswer, written, validFrom, valid}
+use Rattle.trip_list.specs.Lines.{hasLine, firstTrip, lineLength}
 use Rattle.trip_list.specs.Entries.{Entry, linesOf, entriesFrom, entryTrip}
 use Rattle.trip_list.proofs.Lines.{lineOf, Three, minuteOf, metresOf, driverOf, Texts, texts, line-has, line-trip, line-rest}
 use Rattle.trip_list.proofs.Parsing.{Accepted, line-within, from-end, from-next, First, parsed-first, parsed-none, list-parsed, accepted, accepted-short, accepted-trips}
@@ -147,7 +147,7 @@ parsed-valid least s (t ∷ ts) q =
 
 valid-of : (p : Parsed) → ((ts : List Trip) → p ≡ trips ts → valid ts ≡ true) → valid (tripsOf p) ≡ true
 valid-of (trips ts) h = h ts refl
-valid-of (refused a) h = refl
+valid-of (refusal a) h = refl
 
 -- minutes rise: each is above those before it
 valid-later : (n : ℕ) (t : Trip) (ts : List Trip) → validFrom n (t ∷ ts) ≡ true → validFrom (t .minute + 1) ts ≡ true
@@ -203,7 +203,7 @@ parsed-same least s (t ∷ ts) q e =
 
 shorter-of : (p : Parsed) (n : ℕ) → ((ts : List Trip) → p ≡ trips ts → length (spell ts) ≤ n) → length (spell (tripsOf p)) ≤ n
 shorter-of (trips ts) n h = h ts refl
-shorter-of (refused a) n h = omega arith
+shorter-of (refusal a) n h = omega arith
 
 module _ (list : List ℕ) where
   -- the trips of a list are within their limits, with rising minutes

@@ -19,7 +19,7 @@ use Rattle.text.proofs.Decimal.{Numeral, numeral, digit-bounds}
 use Rattle.text.proofs.Marks.{isOther, parts-after, parts-alone, between, parts-between}
 use Rattle.trip_list.specs.declared.Line as line
 use Rattle.trip_list.specs.Trip.{Trip, trip, greatestNumber, isDriverByte, isNumber, isDriver, field, hasForm, tripOf}
-use Rattle.trip_list.specs.Reading.{firstLine, hasLine, firstTrip, lineLength, driverStart}
+use Rattle.trip_list.specs.Lines.{firstLine, hasLine, firstTrip, lineLength, driverStart}
 use Rattle.trip_list.specs.Scanner.{run, front, numberField, driverField, NumberRead, DriverRead, LineFields, LineRead}
 use Rattle.trip_list.proofs.Runs.{run-join, front-join, mark-within, front-split, length-run}
 

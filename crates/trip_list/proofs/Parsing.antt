@@ -19,8 +19,8 @@ use Rattle.scan.proofs.Scan.{and-left, and-right, first-le}
 use Rattle.text.specs.Marks.{LF, isMark, parts, restParts}
 use Rattle.text.proofs.Marks.{parts-split}
 use Rattle.trip_list.specs.Trip.{Trip, hasForm, tripOf}
-use Rattle.trip_list.specs.List.{Parsed, trips, refused, before, parseLines, parseFrom, parse, tripsOf, greatestList, answerOf, listAnswer}
-use Rattle.trip_list.specs.Reading.{firstLine, hasLine, firstTrip, lineLength, lineStart}
+use Rattle.trip_list.specs.List.{Parsed, trips, refusal, before, parseLines, parseFrom, parse, tripsOf, greatestList, answerOf, listAnswer}
+use Rattle.trip_list.specs.Lines.{firstLine, hasLine, firstTrip, lineLength, lineStart}
 
 -- ---- the first line
 
@@ -37,8 +37,8 @@ line-within s e =
 -- a line, and the texts of the rest
 lines-next : (least : ℕ) (line r : List ℕ) → parseLines least (line ∷ parts LF r)
     ≡ cond (hasForm line)
-    (cond (leb least (tripOf line .minute)) (before (tripOf line) (parseFrom (tripOf line .minute + 1) r)) (refused TRIP-ORDER))
-    (refused TRIP-FORM)
+    (cond (leb least (tripOf line .minute)) (before (tripOf line) (parseFrom (tripOf line .minute + 1) r)) (refusal TRIP-ORDER))
+    (refusal TRIP-FORM)
 unfolding parseFrom
 lines-next least line r = rw (parts-split LF r)
 
@@ -61,7 +61,7 @@ module _ (least : ℕ) where
         let q : suc end ≡ length (take end s) + 1 = omega (arith, size) in
         rw (parts-split LF s, drop-cons s end 0 (ltb-true _ _ e), q)
 
-    from-last : ltb end (length s) ≡ false → parseFrom least s ≡ refused TRIP-FORM
+    from-last : ltb end (length s) ≡ false → parseFrom least s ≡ refusal TRIP-FORM
     unfolding parseFrom
     from-last e =
         let h = ltb-false end (length s) e in
@@ -70,19 +70,19 @@ module _ (least : ℕ) where
 
     pub from-step : parseFrom least s
         ≡ cond (hasLine s)
-        (cond (leb least (firstTrip s .minute)) (before (firstTrip s) (parseFrom (firstTrip s .minute + 1) (drop (lineLength s) s))) (refused TRIP-ORDER))
-        (refused TRIP-FORM)
+        (cond (leb least (firstTrip s .minute)) (before (firstTrip s) (parseFrom (firstTrip s .minute + 1) (drop (lineLength s) s))) (refusal TRIP-ORDER))
+        (refusal TRIP-FORM)
     unfolding hasLine firstTrip
     from-step =
         cases (ltb end (length s))
         (λ e. from-line e ∙ lines-next least (firstLine s) (drop (lineLength s) s) ∙ rw e)
         (λ e. from-last e ∙ rw e)
 
-    pub from-malformed : hasLine s ≡ false → parseFrom least s ≡ refused TRIP-FORM
+    pub from-malformed : hasLine s ≡ false → parseFrom least s ≡ refusal TRIP-FORM
     from-malformed e = from-step ∙ rw e
 
     module _ (e : hasLine s ≡ true) where
-      pub from-falling : firstTrip s .minute < least → parseFrom least s ≡ refused TRIP-ORDER
+      pub from-falling : firstTrip s .minute < least → parseFrom least s ≡ refusal TRIP-ORDER
       from-falling h = from-step ∙ rw (e, lt-leb _ _ h)
 
       pub from-next : least ≤ firstTrip s .minute → parseFrom least s ≡ before (firstTrip s) (parseFrom (firstTrip s .minute + 1) (drop (lineLength s) s))
@@ -96,19 +96,19 @@ Accepted list = parse list ≡ trips (tripsOf (parse list))
 -- 1 for trips, 0 for a refusal
 kind : Parsed → ℕ
 kind (trips ts) = 1
-kind (refused a) = 0
+kind (refusal a) = 0
 
-pub not-both : {A : Type 0} (p : Parsed) (ts : List Trip) (a : Coded) → p ≡ trips ts → p ≡ refused a → A
+pub not-both : {A : Type 0} (p : Parsed) (ts : List Trip) (a : Coded) → p ≡ trips ts → p ≡ refusal a → A
 unfolding kind
 not-both p ts a e f = let z : _≡_ {A = ℕ} 1 0 = ap kind (sym e ∙ f) in absurd (omega arith)
 
 before-inverse : (u : Trip) (p : Parsed) (t : Trip) (ts : List Trip) → before u p ≡ trips (t ∷ ts) → (u ≡ t) × (p ≡ trips ts)
 before-inverse u (trips us) t ts e = (ap (λ (q : Parsed). getD (tripsOf q) 0 u) e, ap (λ (q : Parsed). trips (drop 1 (tripsOf q))) e)
-before-inverse u (refused a) t ts e = not-both (refused a) (t ∷ ts) a e refl
+before-inverse u (refusal a) t ts e = not-both (refusal a) (t ∷ ts) a e refl
 
 before-some : {A : Type 0} (u : Trip) (p : Parsed) → before u p ≡ trips [] → A
 before-some u (trips us) e = let z : _≡_ {A = ℕ} (length (u ∷ us)) 0 = ap (λ (q : Parsed). length (tripsOf q)) e in absurd (omega arith)
-before-some u (refused a) e = not-both (refused a) [] a e refl
+before-some u (refusal a) e = not-both (refusal a) [] a e refl
 
 -- the bytes of a list that begins with a trip
 pub record First (least : ℕ) (s : List ℕ) (t : Trip) (ts : List Trip) : Type 0 where
@@ -162,12 +162,12 @@ module _ (least : ℕ) (s : List ℕ) where
 -- a refusal has a number other than 0, and count 0
 honest : Parsed → Bool
 honest (trips ts) = true
-honest (refused a) = ltb 0 (a .number) && eqb (a .count) 0
+honest (refusal a) = ltb 0 (a .number) && eqb (a .count) 0
 
 honest-before : (t : Trip) (p : Parsed) → honest p ≡ true → honest (before t p) ≡ true
 unfolding honest
 honest-before t (trips ts) e = refl
-honest-before t (refused a) e = e
+honest-before t (refusal a) e = e
 
 honest-lines : (least : ℕ) (ts : List (List ℕ)) → honest (parseLines least ts) ≡ true
 unfolding honest
@@ -187,7 +187,7 @@ honest-list list = honest-lines 0 (parts LF list)
 accepted-of : (p : Parsed) (n : ℕ) → honest p ≡ true → answerOf p ≡ done n → p ≡ trips (tripsOf p)
 unfolding honest
 accepted-of (trips ts) n h e = refl
-accepted-of (refused a) n h e = absurd (false≢true (rw e at h))
+accepted-of (refusal a) n h e = absurd (false≢true (rw e at h))
 
 -- no list has more trips than bytes
 pub few-trips : (least : ℕ) (s : List ℕ) (ts : List Trip) → parseFrom least s ≡ trips ts → length ts ≤ length s
@@ -199,11 +199,11 @@ few-trips least s (t ∷ ts) e =
 counted-few : (p : Parsed) (n : ℕ) → honest p ≡ true → ((ts : List Trip) → p ≡ trips ts → length ts ≤ n) → answerOf p .count ≤ n
 unfolding honest
 counted-few (trips ts) n h few = few ts refl
-counted-few (refused a) n h few = omega (arith, eqb-true (a .count) 0 (and-right (ltb 0 (a .number)) (eqb (a .count) 0) h))
+counted-few (refusal a) n h few = omega (arith, eqb-true (a .count) 0 (and-right (ltb 0 (a .number)) (eqb (a .count) 0) h))
 
 pub accepted-count : (p : Parsed) (n : ℕ) → p ≡ trips (tripsOf p) → answerOf p ≡ done n → length (tripsOf p) ≡ n
 accepted-count (trips ts) n a e = ap (λ (c : Coded). c .count) e
-accepted-count (refused b) n a e = not-both (refused b) [] b a refl
+accepted-count (refusal b) n a e = not-both (refusal b) [] b a refl
 
 module _ (list : List ℕ) where
   pub list-range : greatestList < length list → RANGE ≡ listAnswer list

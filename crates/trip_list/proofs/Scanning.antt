@@ -13,7 +13,7 @@ use Rattle.text.specs.Decimal.{isDigit, value, leadingZeros}
 use Rattle.text.specs.Marks.{LF, comma, fields}
 use Rattle.trip_list.specs.declared.Line as line
 use Rattle.trip_list.specs.Trip.{Trip, trip, isDriverByte, isNumber, isDriver, field}
-use Rattle.trip_list.specs.Reading.{firstLine, hasLine, firstTrip, lineLength, driverStart}
+use Rattle.trip_list.specs.Lines.{firstLine, hasLine, firstTrip, lineLength, driverStart}
 use Rattle.trip_list.specs.Scanner.{run, front, numberField, driverField, NumberRead, DriverRead, LineFields, LineRead}
 use Rattle.trip_list.proofs.Runs.{run-join, front-join, mark-within, front-split, length-run}
 use Rattle.trip_list.proofs.Lines.{number-digits, driver-every, LF-no-driver, after-mark, lineOf, Three, minuteOf, metresOf, driverOf, Texts, texts, line-fields, line-has, line-trip, line-length, line-driver}

@@ -11,7 +11,7 @@ use Rattle.text.specs.Decimal.{value, decimal, leadingZeros}
 use Rattle.text.specs.Marks.{LF, comma}
 use Rattle.text.proofs.Decimal.{Numeral, numeral, decimal-value, zeros-below}
 use Rattle.trip_list.specs.Trip.{Trip, trip, greatestNumber, isNumber, tripOf, spellTrip}
-use Rattle.trip_list.specs.Reading.{hasLine, firstTrip, lineLength}
+use Rattle.trip_list.specs.Lines.{hasLine, firstTrip, lineLength}
 use Rattle.trip_list.proofs.Lines.{lineOf, minuteOf, metresOf, driverOf, Texts, texts, line-length}
 
 pub spell-length : (t : Trip) → length (spellTrip t) ≡ length (decimal (t .minute)) + length (decimal (t .metres)) + length (t .driver) + 3

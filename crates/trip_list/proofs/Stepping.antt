@@ -15,7 +15,7 @@ use Rattle.text.specs.Decimal.{value}
 use Rattle.text.proofs.Decimal.{Numeral, numeral}
 use Rattle.trip_list.specs.declared.Line as line
 use Rattle.trip_list.specs.Trip.{greatestNumber, isNumber, tripOf, spellTrip}
-use Rattle.trip_list.specs.Reading.{hasLine, firstTrip, lineLength, driverStart}
+use Rattle.trip_list.specs.Lines.{hasLine, firstTrip, lineLength, driverStart}
 use Rattle.trip_list.specs.Scanner.{LineFields, LineRead, LineAt, Stopped, tripAt, spelledLine}
 use Rattle.trip_list.proofs.Lines.{minuteOf, metresOf, driverOf, Texts, texts, line-driver}
 use Rattle.trip_list.proofs.Parsing.{line-some, line-within, from-malformed, from-falling}

@@ -7,8 +7,8 @@ use Rattle.answer.specs.Coded.{Coded, done, TRIP-FORM, TRIP-ORDER}
 use Rattle.text.specs.Ascii.{ascii}
 use Rattle.text.specs.Decimal.{isNumeral, decimal}
 use Rattle.trip_list.specs.Trip.{Trip, trip, isDriverByte, isDriver, hasForm, tripOf, spellTrip, spell}
-use Rattle.trip_list.specs.List.{Parsed, trips, refused, parseFrom, parse, tripsOf}
-use Rattle.trip_list.specs.Reading.{firstLine, firstTrip, lineLength, driverStart, lineStart}
+use Rattle.trip_list.specs.List.{Parsed, trips, refusal, parseFrom, parse, tripsOf}
+use Rattle.trip_list.specs.Lines.{firstLine, firstTrip, lineLength, driverStart, lineStart}
 
 pub record Row : Type 0 where
   pub list : List ℕ
@@ -20,7 +20,7 @@ abbrev good : String → List Trip → String → Row
 good list ts written = record { list = ascii list; parsed = trips ts; written = ascii written }
 
 abbrev bad : String → Coded → Row
-bad list a = record { list = ascii list; parsed = refused a; written = [] }
+bad list a = record { list = ascii list; parsed = refusal a; written = [] }
 
 abbrev pub rows : List Row
 rows =

@@ -25,8 +25,9 @@ use Rattle.text.specs.Marks.{LF, comma}
 use Rattle.trip_list.specs.declared.Trip as code
 use Rattle.trip_list.specs.declared.Line as line
 use Rattle.trip_list.specs.Trip.{Trip, trip, spellTrip, spell, tripOf}
-use Rattle.trip_list.specs.List.{Parsed, trips, refused, before, parseFrom, parse, tripsOf, greatestList, answerOf, listAnswer, spelling, writeAnswer, written}
-use Rattle.trip_list.specs.Reading.{hasLine, firstTrip, lineLength, driverStart, lineStart, Placed, placed, Given, given, inList, readTrip, lineTests, nextAnswer, nextTrip}
+use Rattle.trip_list.specs.List.{Parsed, trips, refusal, before, parseFrom, parse, tripsOf, greatestList, answerOf, listAnswer, spelling, writeAnswer, written}
+use Rattle.trip_list.specs.Lines.{hasLine, firstTrip, lineLength, driverStart, lineStart}
+use Rattle.trip_list.specs.Lookup.{Located, located, Given, given, inList, readTrip, lineTests, nextAnswer, nextTrip}
 use Rattle.trip_list.specs.declared.Step.{Step}
 use Rattle.trip_list.specs.declared.Step.the-variants.{At, Refused}
 use Rattle.trip_list.specs.Scanner.{LineFields, LineAt, Stopped, Stepped, tripAt, spelledLine, Surveyed, Spelled}
@@ -52,7 +53,7 @@ before-none : (ts : List Trip) → beforeAll ts (trips []) ≡ trips ts
 before-none [] = refl
 before-none (u ∷ us) = ap (before u) (before-none us)
 
-before-refused : (ts : List Trip) (a : Coded) → beforeAll ts (refused a) ≡ refused a
+before-refused : (ts : List Trip) (a : Coded) → beforeAll ts (refusal a) ≡ refusal a
 before-refused [] a = refl
 before-refused (u ∷ us) a = ap (before u) (before-refused us a)
 
@@ -130,7 +131,7 @@ module _ (list : List ℕ) (at least count : ℕ) (w : Walked list at least coun
     walked-on = sym (spell-join (w .passed) (firstTrip s ∷ []) ∙ ap (λ (x : List ℕ). spell (w .passed) ++ x) (append-nil (spellTrip (firstTrip s))))
 
   -- a line is refused
-  pub walked-bad : (a : Coded) → Stopped least (drop at list) a → parse list ≡ refused a
+  pub walked-bad : (a : Coded) → Stopped least (drop at list) a → parse list ≡ refusal a
   walked-bad a b = w .so-far ∙ ap (beforeAll (w .passed)) (b .parsed) ∙ before-refused (w .passed) a
 
   -- the list is at its end
@@ -230,9 +231,9 @@ driver-part s form =
     ap (λ (i : ℕ). drop i s) at ∙ sym (drop-drop (length k + 1) (length m + 1) s) ∙ ap (drop (length k + 1)) one ∙ drop-append-add k _ 1 in
     ap (take (length d)) two ∙ take-at d (LF ∷ r) (length d) refl
 
-pub placed-at : (list : List ℕ) (at : ℕ) → hasLine (drop at list) ≡ true → inList list (tripAt list at) ≡ placed (firstTrip (drop at list)) (at + driverStart (drop at list))
+pub located-at : (list : List ℕ) (at : ℕ) → hasLine (drop at list) ≡ true → inList list (tripAt list at) ≡ located (firstTrip (drop at list)) (at + driverStart (drop at list))
 unfolding tripAt
-placed-at list at form =
+located-at list at form =
     let s = drop at list in
     let d : part list (at + driverStart s) (length (firstTrip s .driver)) ≡ firstTrip s .driver =
     ap (take (length (firstTrip s .driver))) (sym (drop-drop (driverStart s) at list)) ∙ driver-part s form in
@@ -246,7 +247,7 @@ module _ (list : List ℕ) (place n : ℕ) (e : listAnswer list ≡ done n) (acc
   read-found h t q =
       let c : length (tripsOf (parse list)) ≡ n = accepted-trips list n e in
       let p = place-line place 0 list (tripsOf (parse list)) acc (omega arith) in
-      rw (e, p .1, q, placed-at list (lineStart place list) (p .0))
+      rw (e, p .1, q, located-at list (lineStart place list) (p .0))
 
   pub read-past : n ≤ place → given (done n) [] ≡ readTrip list place
   unfolding readTrip
@@ -321,7 +322,7 @@ module _ (list : List ℕ) (at least : ℕ) where
           let s = drop at list in
           let up : least ≤ firstTrip s .minute = omega (arith, a .read .minute) in
           let some : 0 < at + lineLength s = omega (arith, line-some s) in
-          rw (le-leb _ _ short, lt-ltb _ _ inside, a .form, le-leb _ _ up, lt-ltb _ _ some, a .read .size, q, placed-at list at (a .form))
+          rw (le-leb _ _ short, lt-ltb _ _ inside, a .form, le-leb _ _ up, lt-ltb _ _ some, a .read .size, q, located-at list at (a .form))
 
   -- the count is within the list
   pub next-count : nextAnswer list at least .count ≤ greatestList

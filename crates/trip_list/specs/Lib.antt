@@ -1,5 +1,6 @@
 pub mod Trip
 pub mod List
-pub mod Reading
+pub mod Lines
+pub mod Lookup
 pub mod Scanner
 pub mod Entries

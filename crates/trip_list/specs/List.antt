@@ -13,21 +13,21 @@ use Rattle.trip_list.specs.Trip.{Trip, hasForm, tripOf, spell, inLimits}
 -- its trips, or the refusal of its first bad line
 pub data Parsed : Type 0 where
   trips : List Trip → Parsed
-  refused : Coded → Parsed
+  refusal : Coded → Parsed
 
 -- a trip before those of the rest
 abbrev pub before : Trip → Parsed → Parsed
 before t (trips ts) = trips (t ∷ ts)
-before t (refused a) = refused a
+before t (refusal a) = refusal a
 
 -- texts between LFs: each is a line, in order, with a minute of at least `least`, and nothing stands after the last LF
 abbrev pub parseLines : ℕ → List (List ℕ) → Parsed
 parseLines least [] = trips []
-parseLines least (last ∷ []) = cond (eqb (length last) 0) (trips []) (refused TRIP-FORM)
+parseLines least (last ∷ []) = cond (eqb (length last) 0) (trips []) (refusal TRIP-FORM)
 parseLines least (line ∷ next ∷ more) =
     cond (hasForm line)
-    (cond (leb least (tripOf line .minute)) (before (tripOf line) (parseLines (tripOf line .minute + 1) (next ∷ more))) (refused TRIP-ORDER))
-    (refused TRIP-FORM)
+    (cond (leb least (tripOf line .minute)) (before (tripOf line) (parseLines (tripOf line .minute + 1) (next ∷ more))) (refusal TRIP-ORDER))
+    (refusal TRIP-FORM)
 
 unfoldable pub parseFrom : ℕ → List ℕ → Parsed
 parseFrom least s = parseLines least (parts LF s)
@@ -37,7 +37,7 @@ parse list = parseFrom 0 list
 
 abbrev pub tripsOf : Parsed → List Trip
 tripsOf (trips ts) = ts
-tripsOf (refused a) = []
+tripsOf (refusal a) = []
 
 -- ---- the answer for a list: RANGE, 10, 11, or the number of its trips
 
@@ -46,7 +46,7 @@ greatestList = 4096
 
 abbrev pub answerOf : Parsed → Coded
 answerOf (trips ts) = done (length ts)
-answerOf (refused a) = a
+answerOf (refusal a) = a
 
 unfoldable pub listAnswer : List ℕ → Coded
 listAnswer list = firstRefusal (test (leb (length list) greatestList) RANGE ∷ []) (answerOf (parse list))

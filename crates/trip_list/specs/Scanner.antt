@@ -16,8 +16,9 @@ use Rattle.trip_list.specs.declared.Line as line
 use Rattle.trip_list.specs.declared.Step.{Step}
 use Rattle.trip_list.specs.declared.Step.the-variants.{At, Refused}
 use Rattle.trip_list.specs.Trip.{isDriverByte, isNumber, isDriver, field, spellTrip}
-use Rattle.trip_list.specs.List.{refused, parseFrom, parse, answerOf, listAnswer, spelling}
-use Rattle.trip_list.specs.Reading.{firstLine, hasLine, firstTrip, lineLength, driverStart, lineStart, lineTests}
+use Rattle.trip_list.specs.List.{refusal, parseFrom, parse, answerOf, listAnswer, spelling}
+use Rattle.trip_list.specs.Lines.{firstLine, hasLine, firstTrip, lineLength, driverStart, lineStart}
+use Rattle.trip_list.specs.Lookup.{lineTests}
 
 -- how many bytes in front pass the test, and these bytes
 unfoldable pub run : (ℕ → Bool) → List ℕ → ℕ
@@ -66,7 +67,7 @@ pub record LineAt (list : List ℕ) (at : ℕ) (l : line.Line) : Type 0 where
 -- the bytes do not begin with a line of a minute of at least `least`
 pub record Stopped (least : ℕ) (s : List ℕ) (a : Coded) : Type 0 where
   pub told : (other : Coded) → firstRefusal (lineTests least s) other ≡ a
-  pub parsed : parseFrom least s ≡ refused a
+  pub parsed : parseFrom least s ≡ refusal a
 
 -- the line at an index, or the refusal of what starts there
 abbrev pub Stepped : List ℕ → ℕ → ℕ → Step → Type 0

@@ -14,7 +14,7 @@ ghost use Rattle.text.specs.Decimal.{leadingZeros};
 ghost use Rattle.text.specs.Marks.{comma};
 ghost use Rattle.trip_list.specs.Trip.{greatestNumber, isDriverByte};
 ghost use Rattle.trip_list.specs.List.{greatestList, writeAnswer, written};
-ghost use Rattle.trip_list.specs.Reading.{read, readTrip, nextTrip};
+ghost use Rattle.trip_list.specs.Lookup.{looked, readTrip, nextTrip};
 ghost use Rattle.trip_list.specs.Scanner.{NumberRead, DriverRead, LineRead, Stepped, LineAt, tripAt, spelledLine, Surveyed, Spelled};
 
 // The longest list.
@@ -62,10 +62,8 @@ fn number_in_front(text: &[u8]) -> Number
     let mut value = 0;
     let mut i = 0;
     while i < text.len() {
-        if text[i] < b'0' {
-            return number_ended(value, i, text[i]);
-        }
-        if text[i] > b'9' {
+        let digit = std::num::wrapping_sub_u8(text[i], b'0');
+        if digit > 9 {
             return number_ended(value, i, text[i]);
         }
         if i == 10 {
@@ -75,7 +73,7 @@ fn number_in_front(text: &[u8]) -> Number
                 digits: 0,
             };
         }
-        value = 10 * value + number::widen(text[i] - b'0');
+        value = 10 * value + number::widen(digit);
         i += 1;
     }
     Number {
@@ -104,16 +102,10 @@ fn leading_zeros(text: &[u8], digits: usize) -> usize
 fn is_driver_byte(c: u8) -> bool
     ensures { λ r. ⌜ r ≡ isDriverByte c ⌝ }
 {
-    if c < b'0' {
-        return false;
-    }
-    if c <= b'9' {
+    if std::num::wrapping_sub_u8(c, b'A') < 26 {
         return true;
     }
-    if c < b'A' {
-        return false;
-    }
-    c <= b'Z'
+    std::num::wrapping_sub_u8(c, b'0') < 10
 }
 
 // Letters and digits in front of a text. Whether they are a driver with LF after it, and how many they are.
@@ -240,7 +232,7 @@ pub struct Trip {
 }
 
 // What the reader and the cursor give.
-pub enum Reading {
+pub enum Lookup {
     // A count, and a trip.
     Found(usize, Trip),
     // A count, and no trip.
@@ -263,18 +255,18 @@ fn trip_of(list: &[u8], at: usize, line: Line) -> Trip
 
 // The trip of the line that starts at index `at`, whose minute is to be at least `least`. The count is the index after that line; it
 // is 0 where the list ends at `at` or before.
-pub fn next_trip(list: &[u8], at: usize, least: usize) -> Reading
-    ensures { λ r. ⌜ read (now (list .entry)) r ≡ nextTrip (now (list .entry)) at least ⌝ }
+pub fn next_trip(list: &[u8], at: usize, least: usize) -> Lookup
+    ensures { λ r. ⌜ looked (now (list .entry)) r ≡ nextTrip (now (list .entry)) at least ⌝ }
 {
     if list.len() > MAX_LIST {
-        return Reading::Refused(Refusal::Range);
+        return Lookup::Refused(Refusal::Range);
     }
     if at >= list.len() {
-        return Reading::None(0);
+        return Lookup::None(0);
     }
     match line_at(list, at, least) {
-        Step::At(line) => Reading::Found(at + line.length, trip_of(list, at, line)),
-        Step::Refused(refusal) => Reading::Refused(refusal),
+        Step::At(line) => Lookup::Found(at + line.length, trip_of(list, at, line)),
+        Step::Refused(refusal) => Lookup::Refused(refusal),
     }
 }
 
@@ -335,8 +327,8 @@ fn survey(list: &[u8], place: usize) -> Findings
 // ---- the reader
 
 // The trip at a place, from 0, or none past the last. The count is the number of trips.
-pub fn read(list: &[u8], place: usize) -> Reading
-    ensures { λ r. ⌜ read (now (list .entry)) r ≡ readTrip (now (list .entry)) place ⌝ }
+pub fn read(list: &[u8], place: usize) -> Lookup
+    ensures { λ r. ⌜ looked (now (list .entry)) r ≡ readTrip (now (list .entry)) place ⌝ }
 {
     let found = survey(list, place);
     let answer = found.answer;
@@ -344,11 +336,11 @@ pub fn read(list: &[u8], place: usize) -> Reading
     match answer {
         Answer::Done(count) => {
             if place < count {
-                return Reading::Found(count, trip);
+                return Lookup::Found(count, trip);
             }
-            Reading::None(count)
+            Lookup::None(count)
         }
-        Answer::Refused(refusal) => Reading::Refused(refusal),
+        Answer::Refused(refusal) => Lookup::Refused(refusal),
     }
 }
 
