@@ -2,14 +2,14 @@
 use mathlib.Core.Path.{_≡_, refl, sym, ap, _∙_}
 use mathlib.Core.Bool.{Bool, true, false, _&&_, not, false≢true}
 use mathlib.Core.List.{List, [], _∷_, _++_}
-use Prim.Native.Nat.{ℕ, zero, suc, _+_, _-_, _*_, _^_, _≤_, _<_}
+use Prim.Native.Nat.{ℕ, zero, suc, _+_, _-_, _*_, _%_, _^_, _≤_, _<_}
 use native.Mathlib.Omega.{arith}
 use native.Mathlib.Nat.{pow-succ', pow-le-pow-right, lt-of-lt-of-le}
 use native.Mathlib.Numerals.{add-one}
-use lib.Dec.{eqb, leb}
+use lib.Dec.{eqb, leb, ltb}
 use lib.ListN.{length, getD, take, drop, List·getD-eq-default, drop-of-length-le, take-append-drop}
 use lib.Seq.{take-suc, drop-cons, take-append-seam, getD-append-seam}
-use borrow.Author.Tests.{eqb-true, le-leb, lt-leb}
+use borrow.Author.Tests.{eqb-true, le-leb, lt-leb, leb-true, ltb-true, ltb-false}
 use borrow.Table.Steps.{cases}
 use Rattle.memory.proofs.Bytes.{length-front}
 use Rattle.scan.specs.Scan.{every, firstIndex}
@@ -17,7 +17,7 @@ use Rattle.scan.proofs.Scan.{every-impl, first-le, first-join}
 use Rattle.scan.proofs.Loops.{searched-next, searched-here}
 use Rattle.text.specs.Decimal.{isDigit, value, isNumeral}
 use Rattle.text.specs.Marks.{LF, comma}
-use Rattle.text.proofs.Decimal.{digit-bounds, value-join}
+use Rattle.text.proofs.Decimal.{digit-bounds, is-digit, not-digit-below, not-digit-above, value-join}
 use Rattle.trip_list.specs.Trip.{greatestNumber, isDriverByte, isNumber, isDriver}
 use Rattle.trip_list.specs.Scanner.{run, front, numberField, driverField, NumberRead, DriverRead}
 
@@ -188,21 +188,37 @@ module _ (s : List ℕ) (i : ℕ) (p : Passed isDriverByte s i) where
       read = λ _. sym letters-run;
     }
 
--- ---- the bytes of a driver
+-- ---- bytes, by differences that wrap at 256
 
-module _ (c : ℕ) where
-  pub below-digits : c < 48 → false ≡ isDriverByte c
-  unfolding isDriverByte
-  below-digits h = let k : c < 65 = omega arith in rw (lt-leb 48 c h, lt-leb 65 c k)
+-- a digit, and its value
+pub digit-found : (c d : ℕ) → (d + 48) % 2 ^ 8 ≡ c → d ≤ 9 → (isDigit c ≡ true) × (d ≡ c - 48)
+digit-found c d e h = let q : c ≡ d + 48 = omega arith in (is-digit c (omega arith) (omega arith), omega arith)
 
-  pub a-digit : 48 ≤ c → c ≤ 57 → true ≡ isDriverByte c
-  unfolding isDriverByte
-  a-digit h k = rw (le-leb 48 c h, le-leb c 57 k)
+pub no-digit-found : (c d : ℕ) → c < 256 → (d + 48) % 2 ^ 8 ≡ c → d < 256 → 9 < d → isDigit c ≡ false
+no-digit-found c d k e l h =
+    cases (ltb c 48)
+    (λ q. not-digit-below c (ltb-true c 48 q))
+    (λ q. let f = ltb-false c 48 q in not-digit-above c (omega arith))
 
-  pub between : 57 < c → c < 65 → false ≡ isDriverByte c
-  unfolding isDriverByte
-  between h k = let f : 48 ≤ c = omega arith in rw (le-leb 48 c f, lt-leb c 57 h, lt-leb 65 c k)
+-- a letter; or a digit exactly where the second difference is below 10
+pub a-letter : (c d : ℕ) → (d + 65) % 2 ^ 8 ≡ c → d < 26 → true ≡ isDriverByte c
+unfolding isDriverByte
+a-letter c d e h =
+    let f : 65 ≤ c = omega arith in
+    let g : c ≤ 90 = omega arith in
+    let k : 57 < c = omega arith in
+    rw (not-digit-above c k, le-leb 65 c f, le-leb c 90 g)
 
-  pub from-letters : 57 < c → 65 ≤ c → leb c 90 ≡ isDriverByte c
-  unfolding isDriverByte
-  from-letters h k = let f : 48 ≤ c = omega arith in rw (le-leb 48 c f, lt-leb c 57 h, le-leb 65 c k)
+pub no-letter : (c d n : ℕ) → (d + 65) % 2 ^ 8 ≡ c → (n + 48) % 2 ^ 8 ≡ c → 26 ≤ d → (d < 256) × (n < 256) → ltb n 10 ≡ isDriverByte c
+unfolding isDriverByte
+no-letter c d n e f h w =
+    cases (ltb n 10)
+    (λ q.
+    let l = ltb-true n 10 q in
+    rw (q, is-digit c (omega arith) (omega arith)))
+    (λ q.
+    let l = ltb-false n 10 q in
+    let k : isDigit c ≡ false = no-digit-found c n (omega arith) f (w .1) (omega arith) in
+    cases (leb 65 c)
+    (λ a. let b = leb-true 65 c a in let z : 90 < c = omega arith in rw (q, k, a, lt-leb c 90 z))
+    (λ a. rw (q, k, a)))
