@@ -19,6 +19,9 @@ pub const MEDIA_BYTES: usize = FILES * FILE_BYTES;
 /// Bytes of the frames, which hold the cached pages.
 pub const FRAMES_BYTES: usize = SLOTS * PAGE_BYTES;
 
+/// Greatest length of a trip list.
+pub const LIST_BYTES: usize = 4096;
+
 /// The most media writes that a sync needs, a trim, the pages and a size: a
 /// budget that is never cut.
 pub const SYNC_WRITES: usize = PAGES + 2;
