@@ -14,9 +14,9 @@ differential - compares the archive of the proved store with the reference
 
   differential calls --calls N --seed S [--seed S ...] [--fresh]
       Makes at least N calls in all, spread over the seeds, on arbitrary memory:
-      any lengths, states and numbers, every call of boxstore.h. Compares the
-      answers and all memory after each call, and checks that each call gave
-      each answer that it can give.
+      any lengths, states and numbers, every call of boxstore.h on a store.
+      Compares the answers and all memory after each call, and checks that each
+      call gave each answer that it can give.
 
   differential histories --histories N --seed S [--seed S ...] [--fresh]
       Makes at least N histories in all, spread over the seeds: reads, looks,

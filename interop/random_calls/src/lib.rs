@@ -1,6 +1,6 @@
 //! Compares two stores call by call, on random memory: sound cache states,
 //! nearly sound ones and random bytes; buffers of right and wrong lengths; all
-//! calls of `boxstore.h`, with numbers at and beyond every limit.
+//! calls of `boxstore.h` on a store, with numbers at and beyond every limit.
 
 mod call;
 mod compare;

@@ -395,21 +395,23 @@ mod tests {
     #[test]
     fn spoilt_lists_are_refused() {
         use reference::store::Refusal::{TripForm, TripOrder};
-        let spoilers: [(fn(&mut Rng, &mut Vec<u8>), _); 4] = [
-            (spoil_byte, [TripForm, TripOrder]),
-            (spoil_field, [TripForm, TripOrder]),
-            (spoil_marks, [TripForm, TripForm]),
-            (spoil_order, [TripOrder, TripOrder]),
+        let spoilers: [fn(&mut Rng, &mut Vec<u8>); 4] =
+            [spoil_byte, spoil_field, spoil_marks, spoil_order];
+        let refusals: [&[_]; 4] = [
+            &[TripForm, TripOrder],
+            &[TripForm, TripOrder],
+            &[TripForm],
+            &[TripOrder],
         ];
         let mut rng = Rng::new(3);
-        for (spoil, refusals) in spoilers {
+        for (spoil, refusals) in spoilers.iter().zip(refusals) {
             let mut seen = Vec::new();
             for length in (0..400).chain([LIST_BYTES; 20]) {
                 let mut list = rising_list(&mut rng, length);
                 spoil(&mut rng, &mut list);
                 seen.push(trips(&list).err());
             }
-            for refusal in refusals {
+            for &refusal in refusals {
                 let count = seen.iter().filter(|&&seen| seen == Some(refusal)).count();
                 assert!(count > 5, "{refusal:?} {count}");
             }
