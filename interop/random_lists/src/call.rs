@@ -81,9 +81,7 @@ impl Call {
 
     /// Carries the call out, on slices that lie between guards.
     pub fn run<L: TripLists>(mut self, list: &[u8]) -> Ran {
-        // Behind the list is an LF that is not its own: a call that reads on
-        // finds it.
-        let mut bytes = [list, b"\n"].concat();
+        let mut bytes = with_lf_behind(list);
         let ((word, own_intact), list_intact) = guarded(&mut bytes, |bytes| {
             let list = &bytes[..list.len()];
             match &mut self {
@@ -191,6 +189,12 @@ impl Call {
         }
         call
     }
+}
+
+/// A list, and behind it an LF that is not its own: a call that reads on finds
+/// it.
+pub fn with_lf_behind(list: &[u8]) -> Vec<u8> {
+    [list, b"\n"].concat()
 }
 
 /// A call that was made.

@@ -1,7 +1,9 @@
 //! What holds of one implementation, whatever another one says.
 
 use layout::{LIST_BYTES, TRIP_NUMBERS};
+use reference::trips::Trip;
 
+use crate::call::with_lf_behind;
 use crate::trip_lists::TripLists;
 
 /// What a call finds in a trip that it is lent.
@@ -20,6 +22,8 @@ const BYTE: u8 = 0x5a;
 ///
 /// Answers the number of trips, or nothing where the list is refused.
 pub fn laws<L: TripLists>(list: &[u8], step: usize) -> Result<Option<usize>, String> {
+    let bytes = with_lf_behind(list);
+    let list = &bytes[..list.len()];
     let (trips, end) = walk::<L>(list)?;
     let count = trips.len();
     let read_word = if end == 0 { count as u32 } else { end };
@@ -42,52 +46,33 @@ pub fn laws<L: TripLists>(list: &[u8], step: usize) -> Result<Option<usize>, Str
     }
 
     let written = write::<L>(list)?;
-    if end != 0 {
-        return match written {
-            Err(word) if word == end => Ok(None),
-            other => Err(format!("the cursor ends with {end:x}, written: {other:x?}")),
-        };
-    }
-    let written =
-        written.map_err(|word| format!("the list has {count} trips, not written: {word:x}"))?;
-    if written.len() > list.len() {
+    if written.as_ref().err().copied().unwrap_or(0) != end {
         return Err(format!(
-            "what is written is longer: {}",
-            written.escape_ascii()
+            "the cursor ends with {end:x}, written: {}",
+            told(&written)
         ));
     }
+    let Ok(written) = written else {
+        return Ok(None);
+    };
+    if written.len() > list.len() {
+        return Err(format!("what is written is longer: {}", told(&Ok(written))));
+    }
+    let trips = with_drivers(list, &trips)?;
     let (written_trips, written_end) = walk::<L>(&written)?;
-    let drivers = |list: &[u8], trips: &[[u32; TRIP_NUMBERS]]| {
-        let trips = trips
-            .iter()
-            .map(|trip| driver(list, trip).map(<[u8]>::to_vec));
-        trips.collect::<Result<Vec<_>, _>>()
-    };
-    let numbers = |trips: &[[u32; TRIP_NUMBERS]]| -> Vec<_> {
-        trips
-            .iter()
-            .map(|&[minute, metres, ..]| (minute, metres))
-            .collect()
-    };
-    if written_end != 0
-        || numbers(&written_trips) != numbers(&trips)
-        || drivers(&written, &written_trips)? != drivers(list, &trips)?
-    {
+    if written_end != 0 || with_drivers(&written, &written_trips)? != trips {
         return Err(format!(
             "what is written has other trips: {}",
-            written.escape_ascii()
+            told(&Ok(written))
         ));
     }
-    let padded = padded(list, &trips, LIST_BYTES - written.len())?;
+    let padded = padded(&trips, LIST_BYTES - written.len());
     for same in [&written, &padded] {
         let again = write::<L>(same)?;
         if again.as_ref() != Ok(&written) {
-            return Err(format!(
-                "the trips are written as {}, and spelled as {} they are not: {:x?}",
-                written.escape_ascii(),
-                same.escape_ascii(),
-                again.map(|bytes| bytes.escape_ascii().to_string())
-            ));
+            let again = told(&again);
+            let (same, written) = (same.escape_ascii(), told(&Ok(written.clone())));
+            return Err(format!("written: {written}, and from \"{same}\": {again}"));
         }
     }
     Ok(Some(count))
@@ -96,13 +81,17 @@ pub fn laws<L: TripLists>(list: &[u8], step: usize) -> Result<Option<usize>, Str
 /// The trips that the cursor gives from the start of the list on, and the word
 /// that ends them: 0 at the end of the list, or a refusal.
 fn walk<L: TripLists>(list: &[u8]) -> Result<(Vec<[u32; TRIP_NUMBERS]>, u32), String> {
+    let bytes = with_lf_behind(list);
     let mut trips = Vec::new();
     let (mut at, mut least) = (0, 0);
     loop {
         let mut trip = TRIP;
-        let word = L::next_trip(list, at, least, &mut trip);
+        let word = L::next_trip(&bytes[..list.len()], at, least, &mut trip);
         if word == 0 || word > 65_535 {
-            return Ok((trips, word));
+            return match trip == TRIP {
+                true => Ok((trips, word)),
+                false => Err(format!("next_trip answers {word:x} and leaves {trip:?}")),
+            };
         }
         let next = word as usize;
         if next <= at || (trip[0] as usize) < least {
@@ -116,10 +105,19 @@ fn walk<L: TripLists>(list: &[u8]) -> Result<(Vec<[u32; TRIP_NUMBERS]>, u32), St
     }
 }
 
+/// What is written, or the refusal.
+fn told(written: &Result<Vec<u8>, u32>) -> String {
+    match written {
+        Ok(bytes) => format!("\"{}\"", bytes.escape_ascii()),
+        Err(word) => format!("{word:x}"),
+    }
+}
+
 /// The bytes that are written, or the refusal.
 fn write<L: TripLists>(list: &[u8]) -> Result<Result<Vec<u8>, u32>, String> {
+    let bytes = with_lf_behind(list);
     let mut buffer = vec![BYTE; LIST_BYTES];
-    let word = L::write_trips(list, &mut buffer);
+    let word = L::write_trips(&bytes[..list.len()], &mut buffer);
     let (written, rest) = match word {
         65_536.. => (Err(word), &buffer[..]),
         _ => match buffer.split_at_checked(word as usize) {
@@ -133,17 +131,34 @@ fn write<L: TripLists>(list: &[u8]) -> Result<Result<Vec<u8>, u32>, String> {
     Ok(written)
 }
 
-fn driver<'a>(list: &'a [u8], trip: &[u32; TRIP_NUMBERS]) -> Result<&'a [u8], String> {
-    let (start, length) = (trip[2] as usize, trip[3] as usize);
-    list.get(start..start + length)
-        .ok_or_else(|| format!("the driver of {trip:?} is outside of the list"))
+/// The trips that these numbers tell.
+fn with_drivers<'a>(
+    list: &'a [u8],
+    trips: &[[u32; TRIP_NUMBERS]],
+) -> Result<Vec<Trip<'a>>, String> {
+    let trip = |numbers: &[u32; TRIP_NUMBERS]| {
+        let [minute, metres, start, length] = *numbers;
+        let driver = list.get(start as usize..start as usize + length as usize);
+        driver
+            .map(|driver| Trip {
+                minute,
+                metres,
+                driver,
+            })
+            .ok_or_else(|| format!("the driver of {numbers:?} is outside of the list"))
+    };
+    trips.iter().map(trip).collect()
 }
 
 /// The trips with numbers of ten digits, as far as there is room for zeros.
-fn padded(list: &[u8], trips: &[[u32; TRIP_NUMBERS]], mut room: usize) -> Result<Vec<u8>, String> {
+fn padded(trips: &[Trip<'_>], mut room: usize) -> Vec<u8> {
     let mut padded = Vec::new();
-    for trip in trips {
-        let [minute, metres, ..] = trip;
+    for Trip {
+        minute,
+        metres,
+        driver,
+    } in trips
+    {
         let short = format!("{minute},{metres},");
         let long = format!("{minute:010},{metres:010},");
         let zeros = long.len() - short.len();
@@ -153,8 +168,31 @@ fn padded(list: &[u8], trips: &[[u32; TRIP_NUMBERS]], mut room: usize) -> Result
         } else {
             padded.extend(short.bytes());
         }
-        padded.extend(driver(list, trip)?);
+        padded.extend(*driver);
         padded.push(b'\n');
     }
-    Ok(padded)
+    padded
+}
+
+#[cfg(test)]
+mod tests {
+    use super::*;
+
+    #[test]
+    fn zeros_as_far_as_there_is_room() {
+        let trip = |minute| Trip {
+            minute,
+            metres: 70,
+            driver: b"A0",
+        };
+        let trips = [trip(5), trip(600)];
+        let padded = |room| String::from_utf8(padded(&trips, room)).unwrap();
+        assert_eq!(padded(14), "5,70,A0\n600,70,A0\n");
+        assert_eq!(padded(17), "0000000005,0000000070,A0\n600,70,A0\n");
+        assert_eq!(padded(16), "5,70,A0\n0000000600,0000000070,A0\n");
+        assert_eq!(
+            padded(32),
+            "0000000005,0000000070,A0\n0000000600,0000000070,A0\n"
+        );
+    }
 }
