@@ -210,22 +210,22 @@ static void media_writes(void)
 static void names(void)
 {
     static const char *const expected[] = {"done", "unknown", "SHAPE", "MEDIA", "BOOKS", "DOWN", "NO FILE", "RANGE", "NO ROOM",
-                                           "CUT", "unknown"};
+                                           "CUT", "TRIP FORM", "TRIP ORDER", "unknown"};
     int named = 1, meant = 1;
     unsigned number;
     char version[40];
 
-    for (number = 0; number <= 10; number++) {
+    for (number = 0; number <= 12; number++) {
         uint32_t least = number * BOXSTORE_REFUSED, greatest = least + 65535;
         int unknown = strcmp(boxstore_meaning(least), "no call gives this answer") == 0;
         printf("%u is %s: %s\n", number, boxstore_name(least), boxstore_meaning(least));
         named = named && strcmp(boxstore_name(least), expected[number]) == 0
                 && strcmp(boxstore_name(greatest), expected[number]) == 0;
-        meant = meant && unknown == (number == 1 || number == 10)
+        meant = meant && unknown == (number == 1 || number == 12)
                 && strcmp(boxstore_meaning(greatest), boxstore_meaning(least)) == 0;
     }
     require("each number has its name", named && strcmp(boxstore_name(UINT32_MAX), "unknown") == 0);
-    require("1 and 10 alone mean nothing", meant);
+    require("1 and 12 alone mean nothing", meant);
 
     sprintf(version, "%d.%d.%d", BOXSTORE_VERSION_MAJOR, BOXSTORE_VERSION_MINOR, BOXSTORE_VERSION_PATCH);
     require("the version " BOXSTORE_VERSION " is the same in numbers", strcmp(version, BOXSTORE_VERSION) == 0);
