@@ -9,8 +9,10 @@ use reference::trips::{DIGITS_MAX, DRIVER_MAX};
 
 /// The characters of a driver.
 const CHARACTERS: &[u8; 36] = b"0123456789ABCDEFGHIJKLMNOPQRSTUVWXYZ";
-/// Bytes that a number or a driver has not, those beside its own among them.
-const OUTSIDE: &[u8] = b"/:@[`{az \r\0\x7f\x80\xb0\xc1\xff+-";
+/// The bytes just outside of these, and letters that are small.
+const BESIDE: &[u8; 6] = b"/:@[az";
+/// Other bytes that a number and a driver have not.
+const OUTSIDE: &[u8] = b"`{ \r\0\x7f\x80\xb0\xc1\xff+-";
 /// Commas and LF of a line.
 const MARKS: usize = 3;
 
@@ -175,13 +177,21 @@ fn driver(rng: &mut Rng, length: usize) -> Vec<u8> {
 // ---------------------------------------------------------------------------
 // Faults
 
+/// A byte that neither a number nor a driver has.
+fn outside(rng: &mut Rng) -> u8 {
+    match rng.chance(60) {
+        true => rng.pick(BESIDE),
+        false => rng.pick(OUTSIDE),
+    }
+}
+
 /// A byte that stands in lists, or one that does not.
 fn byte(rng: &mut Rng) -> u8 {
     match rng.below(4) {
         0 => rng.next_u64() as u8,
         1 => rng.pick(b"\n,\r0"),
         2 => rng.pick(CHARACTERS),
-        _ => rng.pick(OUTSIDE),
+        _ => outside(rng),
     }
 }
 
@@ -231,7 +241,7 @@ fn spoil_field(rng: &mut Rng, list: &mut Vec<u8>) {
         .split(|&byte| byte == b',')
         .map(<[u8]>::to_vec)
         .collect();
-    let index = rng.below(fields.len());
+    let index = rng.weighted(&[1, 1, 2]).min(fields.len() - 1);
     fields[index] = match index {
         0 | 1 => odd_number(rng),
         _ => odd_driver(rng),
@@ -241,33 +251,35 @@ fn spoil_field(rng: &mut Rng, list: &mut Vec<u8>) {
 
 fn odd_number(rng: &mut Rng) -> Vec<u8> {
     let limit = 1 << 32;
-    let value = match rng.below(4) {
-        0 => limit + rng.below(5) - 2,
-        1 => rng.pick(&[limit + 1_000, 2 * limit, 9_999_999_999, 10_000_000_000]),
-        2 => any_number(rng),
+    let value = match rng.below(5) {
+        0 | 1 => limit + rng.below(4) - 2,
+        2 => rng.pick(&[limit + 1_000, 2 * limit, 9_999_999_999, 10_000_000_000]),
+        3 => any_number(rng),
         _ => 0,
     };
     let width = rng.pick(&[0, 0, 0, 1, 9, 10, 11, 12, 20]);
     let mut digits = format!("{value:0width$}").into_bytes();
-    match rng.below(12) {
+    match rng.below(20) {
         0 => digits.clear(),
-        1 => digits[0] = rng.pick(OUTSIDE),
-        2 => digits.insert(0, rng.pick(OUTSIDE)),
-        3 => digits.push(rng.pick(OUTSIDE)),
+        1 => digits[0] = outside(rng),
+        2 => digits.insert(0, outside(rng)),
+        3 => digits.push(outside(rng)),
         4 => digits.push(rng.pick(CHARACTERS)),
-        // as many as the value has beyond 64 bits
-        5 => digits = b"18446744073709551617".to_vec(),
+        // one more than 64 bits hold
+        5 => digits = b"18446744073709551616".to_vec(),
         _ => {}
     }
     digits
 }
 
 fn odd_driver(rng: &mut Rng) -> Vec<u8> {
-    let length = rng.pick(&[0, 1, 2, 15, 16, 16, 17, 17, 18, 32, 40]);
-    let mut driver = driver(rng, length);
-    if length > 0 && rng.chance(50) {
-        driver[rng.below(length)] = rng.pick(OUTSIDE);
+    if rng.chance(40) {
+        let length = rng.pick(&[0, 1, 15, 16, 17, 17, 18, 32]);
+        return driver(rng, length);
     }
+    let length = rng.between(1, DRIVER_MAX);
+    let mut driver = driver(rng, length);
+    driver[rng.below(length)] = outside(rng);
     driver
 }
 
