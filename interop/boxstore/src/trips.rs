@@ -4,6 +4,8 @@ use core::fmt;
 use core::iter::FusedIterator;
 use core::str;
 
+use layout::TRIP_NUMBERS;
+
 use crate::{raw, Error, LIST_BYTES};
 
 /// A trip of a list.
@@ -18,8 +20,9 @@ pub struct Trip<'a> {
 }
 
 impl<'a> Trip<'a> {
-    /// The trip that four numbers tell of a list.
-    fn new(list: &'a [u8], [minute, metres, driver, letters]: [u32; 4]) -> Trip<'a> {
+    /// The trip that these numbers tell of a list.
+    fn new(list: &'a [u8], numbers: [u32; TRIP_NUMBERS]) -> Trip<'a> {
+        let [minute, metres, driver, letters] = numbers;
         let driver = &list[driver as usize..][..letters as usize];
         Trip {
             minute,
@@ -47,7 +50,7 @@ impl<'a> Trip<'a> {
 /// # }
 /// ```
 pub fn read_trip(list: &[u8], place: usize) -> Result<(Option<Trip<'_>>, usize), Error> {
-    let mut trip = [0; 4];
+    let mut trip = [0; TRIP_NUMBERS];
     let count = Error::decode(raw::read_trip(list, place, &mut trip))?;
     Ok(((place < count).then(|| Trip::new(list, trip)), count))
 }
@@ -85,7 +88,7 @@ impl<'a> Iterator for Trips<'a> {
 
     fn next(&mut self) -> Option<Trip<'a>> {
         self.left = self.left.checked_sub(1)?;
-        let mut trip = [0; 4];
+        let mut trip = [0; TRIP_NUMBERS];
         // the minutes were found to rise
         let answer = raw::next_trip(self.list, self.at, 0, &mut trip);
         self.at = Error::decode(answer).expect("the list was checked");

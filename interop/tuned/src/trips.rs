@@ -1,6 +1,6 @@
 //! Trip lists: lines `minute,metres,driver`, eight bytes of them at a time.
 
-use layout::LIST_BYTES;
+use layout::{LIST_BYTES, TRIP_NUMBERS};
 
 use crate::{RANGE, SHAPE};
 
@@ -25,9 +25,9 @@ struct Line {
 }
 
 impl Line {
-    /// The four numbers of the trip.
+    /// The numbers that the trip is told as.
     #[inline(always)]
-    fn trip(&self) -> [u32; 4] {
+    fn trip(&self) -> [u32; TRIP_NUMBERS] {
         let driver = self.metres.end;
         [
             self.minute.value,
@@ -210,7 +210,7 @@ fn each_line(list: &[u8], mut visit: impl FnMut(usize, &Line)) -> Result<(), u32
 /// The trip at a place. Counts the trips.
 #[inline(never)]
 pub fn read_trip(list: &[u8], place: usize, trip: &mut [u32]) -> u32 {
-    let Ok(trip) = <&mut [u32; 4]>::try_from(trip) else {
+    let Ok(trip) = <&mut [u32; TRIP_NUMBERS]>::try_from(trip) else {
         return SHAPE;
     };
     let mut found = None;
@@ -234,7 +234,7 @@ pub fn read_trip(list: &[u8], place: usize, trip: &mut [u32]) -> u32 {
 /// The trip of the line at an index. Counts up to the next line.
 #[inline(never)]
 pub fn next_trip(list: &[u8], at: usize, least: usize, trip: &mut [u32]) -> u32 {
-    let Ok(trip) = <&mut [u32; 4]>::try_from(trip) else {
+    let Ok(trip) = <&mut [u32; TRIP_NUMBERS]>::try_from(trip) else {
         return SHAPE;
     };
     if list.len() > LIST_BYTES {
