@@ -268,9 +268,9 @@ uint32_t boxstore_read_trip(const uint8_t *list, size_t list_len, size_t place, 
  * minute is below least. Other lines are not looked at. */
 uint32_t boxstore_next_trip(const uint8_t *list, size_t list_len, size_t at, size_t least, uint32_t *trip, size_t trip_len);
 
-/* Write trips: the list in its one spelling, without the leading zeros of its numbers, into the front of the buffer. Two lists have
- * the same trips exactly where this gives the same bytes. Counts them, never more than the list has; the rest of the buffer keeps
- * its bytes. SHAPE where the buffer has not 4,096 bytes, else refused as read trip is. The buffer may not be the list itself. */
+/* Write trips: copies the list into the front of the buffer, without the leading zeros of its numbers, and counts the bytes: never
+ * more than the list has. All lists of the same trips get this one spelling, and no others do. The rest of the buffer keeps its
+ * bytes. SHAPE where the buffer has not 4,096 bytes, else refused as read trip is. The buffer may not be the list itself. */
 uint32_t boxstore_write_trips(const uint8_t *list, size_t list_len, uint8_t *buffer, size_t buffer_len);
 
 /* The memory of one store. All zeros, as a static one begins, it is down and its files are empty. */

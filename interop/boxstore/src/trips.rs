@@ -111,8 +111,8 @@ impl fmt::Debug for Trips<'_> {
 }
 
 /// Writes a list in its one spelling, its numbers without leading zeros, and
-/// answers the part of the buffer that has it; the rest keeps its bytes. Two
-/// lists have the same trips exactly where their spelling is the same.
+/// answers the part of the buffer that has it; the rest keeps its bytes. All
+/// lists of the same trips share it, and no others do.
 ///
 /// ```
 /// use boxstore::{write_trips, LIST_BYTES};
