@@ -1,6 +1,7 @@
 //! Times the proved store beside the tuned one, beside the plain work, and beside
 //! what a program on Linux would take otherwise. Prints Markdown.
 
+mod lists;
 mod others;
 mod scenario;
 mod timing;
@@ -11,10 +12,11 @@ use std::process::ExitCode;
 use std::time::Duration;
 
 use layout::{FILE_BYTES, PAGE_BYTES};
-use random_calls::{store_of, Store};
+use random_calls::store_of;
+use random_lists::trip_lists_by;
 
 use others::{Named, Other, Room};
-use scenario::{different, Run, Scenario, Step, Work};
+use scenario::{different, Calls, Run, Scenario, Step, Work};
 use timing::{measure, median, ratio, Effort, Side};
 
 store_of!(
@@ -27,6 +29,8 @@ store_of!(
     Tuned,
     tuned
 );
+trip_lists_by!(Proved, boxstore::raw);
+trip_lists_by!(Tuned, tuned);
 
 const HELP: &str = "\
 usage: bench                   all scenarios, as Markdown tables
@@ -163,7 +167,8 @@ fn run(options: &Options, out: &mut impl Write) -> io::Result<()> {
         out,
         "\nThe media are memory, on both sides. The plain copy is the plain work on the bytes that the calls move: a copy of \
          those between caller and store and of the pages written to the media, a fill of those that a trim clears, and a \
-         scan (an OR over the bytes) of those that a mount or a format has to look at. bytes/s counts all these. \
+         scan (an OR over the bytes) of those that a mount or a format has to look at; of a trip list a scan where it is \
+         read, and a copy of what is written. bytes/s counts all these. \
          Medians of {} rounds of {} ms; a ratio is the median of those of the rounds.\n",
         options.effort.rounds,
         options.effort.round.as_millis(),
@@ -271,7 +276,7 @@ fn time_scenario(scenario: &Scenario, effort: Effort) -> Result<Row, String> {
     })
 }
 
-fn side<'a, S: Store>(run: &'a mut Run, scenario: &'a Scenario) -> Side<'a> {
+fn side<'a, S: Calls>(run: &'a mut Run, scenario: &'a Scenario) -> Side<'a> {
     Box::new(|passes| run.passes::<S>(&scenario.steps, passes))
 }
 

@@ -1,125 +1,240 @@
-//! Trip lists: lines `minute,metres,driver`.
+//! Trip lists: lines `minute,metres,driver`, eight bytes of them at a time.
 
-use layout::LIST_BYTES;
+use layout::{LIST_BYTES, TRIP_NUMBERS};
 
 use crate::{RANGE, SHAPE};
 
 const TRIP_FORM: u32 = 10 << 16;
 const TRIP_ORDER: u32 = 11 << 16;
 
-/// A line of a list.
-struct Line {
-    minute: u32,
-    metres: u32,
-    /// Leading zeros of the minute that no number needs, and of the metres.
-    zeros: [usize; 2],
-    /// Where the metres begin.
-    metres_at: usize,
-    /// Where the driver begins.
-    driver_at: usize,
-    /// Where the LF is.
+/// A number of a line.
+struct Number {
+    value: u32,
+    /// Leading zeros that its spelling goes without.
+    zeros: usize,
+    /// The index after its comma.
     end: usize,
 }
 
-/// A number of 1 to 10 digits, with the comma after it: its value, its leading
-/// zeros and the index after the comma.
-#[inline(always)]
-fn number(list: &[u8], at: usize) -> Option<(u32, usize, usize)> {
-    let mut value: u64 = 0;
-    let mut zeros = 0;
-    let mut i = at;
-    loop {
-        let &byte = list.get(i)?;
-        let digit = byte.wrapping_sub(b'0');
-        if digit > 9 {
-            if byte != b',' || i == at || i > at + 10 || value > u64::from(u32::MAX) {
-                return None;
-            }
-            if value == 0 {
-                zeros = i - at - 1;
-            }
-            return Some((value as u32, zeros, i + 1));
-        }
-        if value == 0 {
-            zeros = i - at;
-        }
-        value = value.wrapping_mul(10).wrapping_add(u64::from(digit));
-        i += 1;
-        if i > at + 10 {
-            return None;
-        }
+/// A line of a list.
+struct Line {
+    minute: Number,
+    metres: Number,
+    /// The index after its LF.
+    end: usize,
+}
+
+impl Line {
+    /// The numbers that the trip is told as.
+    #[inline(always)]
+    fn trip(&self) -> [u32; TRIP_NUMBERS] {
+        let driver = self.metres.end;
+        [
+            self.minute.value,
+            self.metres.value,
+            driver as u32,
+            (self.end - 1 - driver) as u32,
+        ]
+    }
+
+    /// Leading zeros of both numbers.
+    #[inline(always)]
+    fn zeros(&self) -> usize {
+        self.minute.zeros + self.metres.zeros
     }
 }
 
-/// The line at an index.
+/// A word with this byte eight times.
+const fn eight(byte: u8) -> u64 {
+    u64::from_le_bytes([byte; 8])
+}
+
+/// The eight bytes from an index on, the first one lowest; zeros past the end.
 #[inline(always)]
-fn line(list: &[u8], at: usize) -> Option<Line> {
-    let (minute, minute_zeros, metres_at) = number(list, at)?;
-    let (metres, metres_zeros, driver_at) = number(list, metres_at)?;
-    let mut end = driver_at;
-    while matches!(list.get(end)?, b'A'..=b'Z' | b'0'..=b'9') {
-        end += 1;
+fn word(list: &[u8], at: usize) -> u64 {
+    match list.get(at..).and_then(|rest| rest.first_chunk()) {
+        Some(&bytes) => u64::from_le_bytes(bytes),
+        None => last_word(list, at),
     }
-    if list[end] != b'\n' || end == driver_at || end > driver_at + 16 {
+}
+
+#[cold]
+#[inline(never)]
+fn last_word(list: &[u8], at: usize) -> u64 {
+    let mut bytes = [0; 8];
+    let rest = list.get(at..).unwrap_or_default();
+    for (to, from) in bytes.iter_mut().zip(rest) {
+        *to = *from;
+    }
+    u64::from_le_bytes(bytes)
+}
+
+/// The top bit of each byte that is no digit. As with [`no_letters`], a byte
+/// from 128 on may spoil those above it, and has its own bit: the lowest bit
+/// is right.
+#[inline(always)]
+fn no_digits(word: u64) -> u64 {
+    let digits = word ^ eight(b'0');
+    (word | digits.wrapping_add(eight(0x7f - 9))) & eight(0x80)
+}
+
+/// The top bit of each byte that is no letter A to Z.
+#[inline(always)]
+fn no_letters(word: u64) -> u64 {
+    let letters = word ^ eight(b'A' - 1);
+    let above = letters.wrapping_add(eight(0x7f - 26));
+    let below = !letters.wrapping_add(eight(0x7f));
+    (word | above | below) & eight(0x80)
+}
+
+/// Bytes below the lowest set bit, 8 where there is none.
+#[inline(always)]
+fn bytes_below(word: u64) -> usize {
+    (word.trailing_zeros() / 8) as usize
+}
+
+/// The byte at an index below 8.
+#[inline(always)]
+fn byte(word: u64, index: usize) -> u8 {
+    (word >> (8 * index)) as u8
+}
+
+/// The value of eight digits, 0 bytes below them included: neighbours joined
+/// three times.
+#[inline(always)]
+fn value(word: u64) -> u64 {
+    let pairs = (word & eight(0x0f)).wrapping_mul(10 << 8 | 1) >> 8;
+    let fours = (pairs & 0x00ff_00ff_00ff_00ff).wrapping_mul(100 << 16 | 1) >> 16;
+    (fours & 0x0000_ffff_0000_ffff).wrapping_mul(10_000 << 32 | 1) >> 32
+}
+
+/// The number at an index, with its comma.
+#[inline(always)]
+fn number(list: &[u8], at: usize) -> Option<Number> {
+    let word = word(list, at);
+    let zeros = bytes_below(word ^ eight(b'0'));
+    let digits = bytes_below(no_digits(word));
+    if digits == 8 {
+        return long_number(list, at, value(word), zeros);
+    }
+    if digits == 0 || byte(word, digits) != b',' {
         return None;
     }
+    Some(Number {
+        value: value(word << (64 - 8 * digits)) as u32,
+        zeros: zeros.min(digits - 1),
+        end: at + digits + 1,
+    })
+}
+
+/// The number at an index whose first eight digits have this value and so many
+/// leading zeros.
+#[inline(always)]
+fn long_number(list: &[u8], at: usize, mut value: u64, mut zeros: usize) -> Option<Number> {
+    for digits in 8..=10 {
+        let byte = *list.get(at + digits)?;
+        if byte == b',' {
+            return Some(Number {
+                value: u32::try_from(value).ok()?,
+                zeros: zeros.min(digits - 1),
+                end: at + digits + 1,
+            });
+        }
+        let digit = byte.wrapping_sub(b'0');
+        if digit > 9 {
+            return None;
+        }
+        value = 10 * value + u64::from(digit);
+        zeros += usize::from(value == 0);
+    }
+    None
+}
+
+/// The index after the LF of the driver at an index.
+#[inline(always)]
+fn driver(list: &[u8], at: usize) -> Option<usize> {
+    let first = word(list, at);
+    let letters = bytes_below(no_digits(first) & no_letters(first));
+    if letters < 8 {
+        return (letters > 0 && byte(first, letters) == b'\n').then_some(at + letters + 1);
+    }
+    let second = word(list, at + 8);
+    let letters = bytes_below(no_digits(second) & no_letters(second));
+    let after = match letters {
+        8 => *list.get(at + 16)?,
+        _ => byte(second, letters),
+    };
+    (after == b'\n').then_some(at + 8 + letters + 1)
+}
+
+/// The line at an index, where one has the form.
+#[inline(always)]
+fn form(list: &[u8], at: usize) -> Option<Line> {
+    let minute = number(list, at)?;
+    let metres = number(list, minute.end)?;
+    let end = driver(list, metres.end)?;
     Some(Line {
         minute,
         metres,
-        zeros: [minute_zeros, metres_zeros],
-        metres_at,
-        driver_at,
         end,
     })
 }
 
-impl Line {
-    #[inline(always)]
-    fn put(&self, trip: &mut [u32; 4]) {
-        *trip = [
-            self.minute,
-            self.metres,
-            self.driver_at as u32,
-            (self.end - self.driver_at) as u32,
-        ];
+/// The line at an index, whose minute is to be at least `least`.
+#[inline(always)]
+fn line(list: &[u8], at: usize, least: u64) -> Result<Line, u32> {
+    match form(list, at) {
+        None => Err(TRIP_FORM),
+        Some(line) if u64::from(line.minute.value) < least => Err(TRIP_ORDER),
+        Some(line) => Ok(line),
     }
+}
+
+/// Goes through the lines of a list, with where they begin.
+#[inline(always)]
+fn each_line(list: &[u8], mut visit: impl FnMut(usize, &Line)) -> Result<(), u32> {
+    if list.len() > LIST_BYTES {
+        return Err(RANGE);
+    }
+    let mut at = 0;
+    let mut least = 0;
+    while at < list.len() {
+        let line = line(list, at, least)?;
+        visit(at, &line);
+        least = u64::from(line.minute.value) + 1;
+        at = line.end;
+    }
+    Ok(())
 }
 
 /// The trip at a place. Counts the trips.
 #[inline(never)]
 pub fn read_trip(list: &[u8], place: usize, trip: &mut [u32]) -> u32 {
-    let Ok(trip) = <&mut [u32; 4]>::try_from(trip) else {
+    let Ok(trip) = <&mut [u32; TRIP_NUMBERS]>::try_from(trip) else {
         return SHAPE;
     };
-    if list.len() > LIST_BYTES {
-        return RANGE;
-    }
-    let mut found = *trip;
-    let mut least = 0;
+    let mut found = None;
     let mut count = 0;
-    let mut at = 0;
-    while at < list.len() {
-        let Some(line) = line(list, at) else {
-            return TRIP_FORM;
-        };
-        if u64::from(line.minute) < least {
-            return TRIP_ORDER;
-        }
+    let walked = each_line(list, |at, _| {
         if count == place {
-            line.put(&mut found);
+            found = Some(at);
         }
-        least = u64::from(line.minute) + 1;
         count += 1;
-        at = line.end + 1;
+    });
+    if let Err(refused) = walked {
+        return refused;
     }
-    *trip = found;
+    // The metres are worked out for this line alone.
+    if let Some(line) = found.and_then(|at| form(list, at)) {
+        *trip = line.trip();
+    }
     count as u32
 }
 
 /// The trip of the line at an index. Counts up to the next line.
 #[inline(never)]
 pub fn next_trip(list: &[u8], at: usize, least: usize, trip: &mut [u32]) -> u32 {
-    let Ok(trip) = <&mut [u32; 4]>::try_from(trip) else {
+    let Ok(trip) = <&mut [u32; TRIP_NUMBERS]>::try_from(trip) else {
         return SHAPE;
     };
     if list.len() > LIST_BYTES {
@@ -128,52 +243,61 @@ pub fn next_trip(list: &[u8], at: usize, least: usize, trip: &mut [u32]) -> u32 
     if at >= list.len() {
         return 0;
     }
-    let Some(line) = line(list, at) else {
-        return TRIP_FORM;
-    };
-    if (line.minute as usize) < least {
-        return TRIP_ORDER;
+    match line(list, at, least as u64) {
+        Ok(line) => {
+            *trip = line.trip();
+            line.end as u32
+        }
+        Err(refused) => refused,
     }
-    line.put(trip);
-    (line.end + 1) as u32
 }
 
 /// The list in its one spelling. Counts its bytes.
 #[inline(never)]
 pub fn write_trips(list: &[u8], buffer: &mut [u8]) -> u32 {
-    let Ok(buffer) = <&mut [u8; LIST_BYTES]>::try_from(buffer) else {
+    if buffer.len() != LIST_BYTES {
         return SHAPE;
-    };
-    if list.len() > LIST_BYTES {
-        return RANGE;
     }
-    let mut least = 0;
     let mut zeros = 0;
-    let mut at = 0;
-    while at < list.len() {
-        let Some(line) = line(list, at) else {
-            return TRIP_FORM;
-        };
-        if u64::from(line.minute) < least {
-            return TRIP_ORDER;
-        }
-        least = u64::from(line.minute) + 1;
-        zeros += line.zeros[0] + line.zeros[1];
-        at = line.end + 1;
+    if let Err(refused) = each_line(list, |_, line| zeros += line.zeros()) {
+        return refused;
+    }
+    let buffer = &mut buffer[..list.len() - zeros];
+    if zeros == 0 {
+        buffer.copy_from_slice(list);
+        return list.len() as u32;
     }
     let mut to = 0;
-    let mut from = 0;
-    let mut copy = |piece: &[u8]| {
-        buffer[to..to + piece.len()].copy_from_slice(piece);
-        to += piece.len();
-    };
-    while from < list.len() && zeros > 0 {
-        let line = line(list, from).expect("the form was tested");
-        copy(&list[from + line.zeros[0]..line.metres_at]);
-        copy(&list[line.metres_at + line.zeros[1]..=line.end]);
-        zeros -= line.zeros[0] + line.zeros[1];
-        from = line.end + 1;
-    }
-    copy(&list[from..]);
+    let walked = each_line(list, |at, line| {
+        let minute = &list[at + line.minute.zeros..];
+        let length = line.minute.end - line.minute.zeros - at;
+        copy::<16>(minute, buffer, to, length);
+        to += length;
+        let rest = &list[line.minute.end + line.metres.zeros..];
+        let length = line.end - line.metres.zeros - line.minute.end;
+        copy::<32>(rest, buffer, to, length);
+        to += length;
+    });
+    debug_assert_eq!((walked, to), (Ok(()), buffer.len()));
     to as u32
+}
+
+/// Copies the front of a slice, at most a block. The whole block where both have
+/// it: what comes after is copied later.
+#[inline(always)]
+fn copy<const BLOCK: usize>(from: &[u8], buffer: &mut [u8], to: usize, length: usize) {
+    let buffer = &mut buffer[to..];
+    match (
+        from.first_chunk::<BLOCK>(),
+        buffer.first_chunk_mut::<BLOCK>(),
+    ) {
+        (Some(from), Some(to)) => *to = *from,
+        _ => copy_last(&from[..length], &mut buffer[..length]),
+    }
+}
+
+#[cold]
+#[inline(never)]
+fn copy_last(from: &[u8], to: &mut [u8]) {
+    to.copy_from_slice(from);
 }

@@ -1,12 +1,14 @@
-//! The tuned store beside the reference, on random memory.
+//! The tuned store beside the reference, on random memory and random trip lists.
 
 use random_calls::{compare, store_of, Reference};
+use random_lists::trip_lists_by;
 
 store_of!(
     /// The tuned store.
     Tuned,
     tuned
 );
+trip_lists_by!(Tuned, tuned);
 
 #[test]
 fn the_tuned_store_is_the_reference() {
@@ -17,4 +19,12 @@ fn the_tuned_store_is_the_reference() {
         calls += tally.calls();
     }
     assert!(calls >= 360_000);
+}
+
+#[test]
+fn tuned_trip_lists_are_those_of_the_reference() {
+    for seed in 1..=3 {
+        let tally = random_lists::compare::<Reference, Tuned>(seed, 20_000).unwrap();
+        assert_eq!(tally.missing(), [""; 0], "seed {seed}");
+    }
 }

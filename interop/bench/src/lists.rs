@@ -1,0 +1,88 @@
+//! Trip lists as drivers leave them.
+
+use layout::LIST_BYTES;
+use random_sessions::rng::Rng;
+
+/// Lists of a scenario. So many that a processor does not learn the lengths of
+/// their fields by heart, as it does those of one list.
+const LISTS: usize = 64;
+
+const DRIVERS: [&str; 6] = ["ANN", "OLGA", "HUGO7", "MARTIN", "D4NIELA", "CHARLOTT"];
+
+/// How a number is spelled.
+#[derive(Clone, Copy, Debug, PartialEq, Eq)]
+pub enum Spelling {
+    /// Without leading zeros.
+    Plain,
+    /// With one leading zero at least, in up to ten digits.
+    Zeros,
+}
+
+impl Spelling {
+    fn of(self, number: usize, rng: &mut Rng) -> String {
+        let digits = number.to_string();
+        match self {
+            Spelling::Plain => digits,
+            Spelling::Zeros => {
+                let width = rng.between(digits.len() + 1, (digits.len() + 4).min(10));
+                format!("{digits:0>width$}")
+            }
+        }
+    }
+}
+
+/// Lists of 4,096 bytes. Their minutes have eight digits and rise by 1 to 90,
+/// the metres have three to six digits.
+pub fn lists(spelling: Spelling) -> Vec<Vec<u8>> {
+    let mut rng = Rng::new(7);
+    let full = |list: &Vec<u8>| list.len() == LIST_BYTES;
+    let lists = std::iter::repeat_with(|| list(&mut rng, spelling));
+    lists.filter(full).take(LISTS).collect()
+}
+
+/// A list of as many bytes as its last line makes it, 4,096 at the least.
+fn list(rng: &mut Rng, spelling: Spelling) -> Vec<u8> {
+    let mut list = Vec::new();
+    let mut minute = rng.between(25_000_000, 35_000_000);
+    while list.len() < LIST_BYTES {
+        minute += rng.between(1, 90);
+        let least = rng.pick(&[100, 1_000, 10_000, 100_000]);
+        let metres = rng.between(least, 10 * least - 1);
+        let numbers = [minute, metres].map(|number| spelling.of(number, rng));
+        let line = format!("{},{},{}\n", numbers[0], numbers[1], rng.pick(&DRIVERS));
+        list.extend(line.bytes());
+    }
+    list
+}
+
+#[cfg(test)]
+mod tests {
+    use super::*;
+
+    #[test]
+    fn lists_are_as_told() {
+        for spelling in [Spelling::Plain, Spelling::Zeros] {
+            let lists = lists(spelling);
+            assert_eq!(lists.len(), LISTS);
+            for list in lists {
+                assert_eq!(list.len(), LIST_BYTES);
+                let text = String::from_utf8(list).unwrap();
+                let mut before = 0;
+                for line in text.strip_suffix('\n').unwrap().split('\n') {
+                    let fields: Vec<&str> = line.split(',').collect();
+                    for number in &fields[..2] {
+                        assert_eq!(number.starts_with('0'), spelling == Spelling::Zeros);
+                        assert!(number.len() <= 10);
+                    }
+                    let minute: usize = fields[0].parse().unwrap();
+                    let metres: usize = fields[1].parse().unwrap();
+                    assert!((25_000_000..50_000_000).contains(&minute));
+                    assert!(before == 0 || (1..=90).contains(&(minute - before)));
+                    assert!((100..1_000_000).contains(&metres));
+                    assert!(DRIVERS.contains(&fields[2]));
+                    before = minute;
+                }
+            }
+        }
+    }
+}
