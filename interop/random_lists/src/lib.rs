@@ -13,5 +13,4 @@ mod trip_lists;
 
 pub use call::Call;
 pub use compare::{compare, Check, Difference, Tally};
-pub use random_list::{random_list, rising_list};
 pub use trip_lists::TripLists;

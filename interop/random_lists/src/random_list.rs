@@ -10,7 +10,7 @@ use reference::trips::{DIGITS_MAX, DRIVER_MAX};
 /// The characters of a driver.
 const CHARACTERS: &[u8; 36] = b"0123456789ABCDEFGHIJKLMNOPQRSTUVWXYZ";
 /// The bytes just outside of these, and letters that are small.
-const BESIDE: &[u8; 6] = b"/:@[az";
+const NEIGHBOURS: &[u8; 6] = b"/:@[az";
 /// Other bytes that a number and a driver have not.
 const OUTSIDE: &[u8] = b"`{ \r\0\x7f\x80\xb0\xc1\xff+-";
 /// Commas and LF of a line.
@@ -80,7 +80,7 @@ struct Style {
 
 /// A list of rising minutes that has this length where that can be, else is
 /// shorter.
-pub fn rising_list(rng: &mut Rng, length: usize) -> Vec<u8> {
+fn rising_list(rng: &mut Rng, length: usize) -> Vec<u8> {
     let style = Style {
         zeros: rng.chance(50),
         short: rng.chance(25),
@@ -180,7 +180,7 @@ fn driver(rng: &mut Rng, length: usize) -> Vec<u8> {
 /// A byte that neither a number nor a driver has.
 fn outside(rng: &mut Rng) -> u8 {
     match rng.chance(60) {
-        true => rng.pick(BESIDE),
+        true => rng.pick(NEIGHBOURS),
         false => rng.pick(OUTSIDE),
     }
 }
