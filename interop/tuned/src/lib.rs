@@ -8,15 +8,15 @@
 //! inlined into its caller, as those of a linked archive are not.
 
 mod state;
-mod trips;
+mod trip_lines;
+pub mod trip_words;
+pub mod trips;
 
 use layout::{
     floor_at, logical_at, put_size, size, slot_at, FILES, FILE_BYTES, FRAMES_BYTES, MEDIA_BYTES,
     PAGES, PAGE_BYTES, SLOTS, SLOT_BYTES, STATE_BYTES, STATE_LOGICAL, STATE_MOUNTED, STATE_SLOTS,
 };
 use state::Slots;
-
-pub use trips::{next_trip, read_trip, write_trips};
 
 const SHAPE: u32 = 2 << 16;
 const MEDIA: u32 = 3 << 16;

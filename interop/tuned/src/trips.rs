@@ -1,178 +1,81 @@
-//! Trip lists: lines `minute,metres,driver`, eight bytes of them at a time.
+//! Trip lists: lines `minute,metres,driver`, byte by byte.
 
-use layout::{LIST_BYTES, TRIP_NUMBERS};
+use crate::trip_lines::{calls, Line, Lines, Number};
 
-use crate::{RANGE, SHAPE};
+/// The most digits of a number.
+const DIGITS: usize = 10;
+/// The most characters of a driver.
+const CHARACTERS: usize = 16;
+/// The longest line, with its commas and LF.
+const LINE: usize = 2 * (DIGITS + 1) + CHARACTERS + 1;
 
-const TRIP_FORM: u32 = 10 << 16;
-const TRIP_ORDER: u32 = 11 << 16;
+/// Whether a driver may have the byte.
+const IN_DRIVER: [bool; 256] = {
+    let mut table = [false; 256];
+    let mut byte = 0;
+    while byte < 256 {
+        table[byte] = (byte as u8).is_ascii_digit() || (byte as u8).is_ascii_uppercase();
+        byte += 1;
+    }
+    table
+};
 
-/// A number of a line.
-struct Number {
-    value: u32,
-    /// Leading zeros that its spelling goes without.
-    zeros: usize,
-    /// The index after its comma.
-    end: usize,
-}
+struct Bytes;
 
-/// A line of a list.
-struct Line {
-    minute: Number,
-    metres: Number,
-    /// The index after its LF.
-    end: usize,
-}
+calls!(Bytes);
 
-impl Line {
-    /// The numbers that the trip is told as.
+impl Lines for Bytes {
     #[inline(always)]
-    fn trip(&self) -> [u32; TRIP_NUMBERS] {
-        let driver = self.metres.end;
-        [
-            self.minute.value,
-            self.metres.value,
-            driver as u32,
-            (self.end - 1 - driver) as u32,
-        ]
+    fn form(list: &[u8], at: usize) -> Option<Line> {
+        // No loop asks for the end of the list where the longest line fits.
+        match list.get(at..).and_then(|rest| rest.first_chunk()) {
+            Some(bytes) => front(bytes, at),
+            None => last_line(list, at),
+        }
     }
 
-    /// Leading zeros of both numbers.
+    /// Copies each byte as it is found to be kept.
     #[inline(always)]
-    fn zeros(&self) -> usize {
-        self.minute.zeros + self.metres.zeros
+    fn spell(list: &[u8], buffer: &mut [u8]) {
+        let mut at = 0;
+        let mut to = 0;
+        while at < list.len() {
+            for end in *b",\n" {
+                // of zeros alone the last is kept
+                while at + 1 < list.len() && list[at] == b'0' && list[at + 1] != b',' {
+                    at += 1;
+                }
+                while at < list.len() {
+                    let byte = list[at];
+                    buffer[to] = byte;
+                    at += 1;
+                    to += 1;
+                    if byte == end {
+                        break;
+                    }
+                }
+            }
+        }
+        debug_assert_eq!(to, buffer.len());
     }
 }
 
-/// A word with this byte eight times.
-const fn eight(byte: u8) -> u64 {
-    u64::from_le_bytes([byte; 8])
-}
-
-/// The eight bytes from an index on, the first one lowest; zeros past the end.
-#[inline(always)]
-fn word(list: &[u8], at: usize) -> u64 {
-    match list.get(at..).and_then(|rest| rest.first_chunk()) {
-        Some(&bytes) => u64::from_le_bytes(bytes),
-        None => last_word(list, at),
-    }
-}
-
+/// The line at an index near the end: with bytes after the list that no field has.
 #[cold]
 #[inline(never)]
-fn last_word(list: &[u8], at: usize) -> u64 {
-    let mut bytes = [0; 8];
-    let rest = list.get(at..).unwrap_or_default();
-    for (to, from) in bytes.iter_mut().zip(rest) {
-        *to = *from;
-    }
-    u64::from_le_bytes(bytes)
+fn last_line(list: &[u8], at: usize) -> Option<Line> {
+    let mut bytes = [0; LINE];
+    let rest = list.get(at..)?;
+    bytes.get_mut(..rest.len())?.copy_from_slice(rest);
+    front(&bytes, at)
 }
 
-/// The top bit of each byte that is no digit. As with [`no_letters`], a byte
-/// from 128 on may spoil those above it, and has its own bit: the lowest bit
-/// is right.
+/// The line at the front of these bytes, the first of which has this index.
 #[inline(always)]
-fn no_digits(word: u64) -> u64 {
-    let digits = word ^ eight(b'0');
-    (word | digits.wrapping_add(eight(0x7f - 9))) & eight(0x80)
-}
-
-/// The top bit of each byte that is no letter A to Z.
-#[inline(always)]
-fn no_letters(word: u64) -> u64 {
-    let letters = word ^ eight(b'A' - 1);
-    let above = letters.wrapping_add(eight(0x7f - 26));
-    let below = !letters.wrapping_add(eight(0x7f));
-    (word | above | below) & eight(0x80)
-}
-
-/// Bytes below the lowest set bit, 8 where there is none.
-#[inline(always)]
-fn bytes_below(word: u64) -> usize {
-    (word.trailing_zeros() / 8) as usize
-}
-
-/// The byte at an index below 8.
-#[inline(always)]
-fn byte(word: u64, index: usize) -> u8 {
-    (word >> (8 * index)) as u8
-}
-
-/// The value of eight digits, 0 bytes below them included: neighbours joined
-/// three times.
-#[inline(always)]
-fn value(word: u64) -> u64 {
-    let pairs = (word & eight(0x0f)).wrapping_mul(10 << 8 | 1) >> 8;
-    let fours = (pairs & 0x00ff_00ff_00ff_00ff).wrapping_mul(100 << 16 | 1) >> 16;
-    (fours & 0x0000_ffff_0000_ffff).wrapping_mul(10_000 << 32 | 1) >> 32
-}
-
-/// The number at an index, with its comma.
-#[inline(always)]
-fn number(list: &[u8], at: usize) -> Option<Number> {
-    let word = word(list, at);
-    let zeros = bytes_below(word ^ eight(b'0'));
-    let digits = bytes_below(no_digits(word));
-    if digits == 8 {
-        return long_number(list, at, value(word), zeros);
-    }
-    if digits == 0 || byte(word, digits) != b',' {
-        return None;
-    }
-    Some(Number {
-        value: value(word << (64 - 8 * digits)) as u32,
-        zeros: zeros.min(digits - 1),
-        end: at + digits + 1,
-    })
-}
-
-/// The number at an index whose first eight digits have this value and so many
-/// leading zeros.
-#[inline(always)]
-fn long_number(list: &[u8], at: usize, mut value: u64, mut zeros: usize) -> Option<Number> {
-    for digits in 8..=10 {
-        let byte = *list.get(at + digits)?;
-        if byte == b',' {
-            return Some(Number {
-                value: u32::try_from(value).ok()?,
-                zeros: zeros.min(digits - 1),
-                end: at + digits + 1,
-            });
-        }
-        let digit = byte.wrapping_sub(b'0');
-        if digit > 9 {
-            return None;
-        }
-        value = 10 * value + u64::from(digit);
-        zeros += usize::from(value == 0);
-    }
-    None
-}
-
-/// The index after the LF of the driver at an index.
-#[inline(always)]
-fn driver(list: &[u8], at: usize) -> Option<usize> {
-    let first = word(list, at);
-    let letters = bytes_below(no_digits(first) & no_letters(first));
-    if letters < 8 {
-        return (letters > 0 && byte(first, letters) == b'\n').then_some(at + letters + 1);
-    }
-    let second = word(list, at + 8);
-    let letters = bytes_below(no_digits(second) & no_letters(second));
-    let after = match letters {
-        8 => *list.get(at + 16)?,
-        _ => byte(second, letters),
-    };
-    (after == b'\n').then_some(at + 8 + letters + 1)
-}
-
-/// The line at an index, where one has the form.
-#[inline(always)]
-fn form(list: &[u8], at: usize) -> Option<Line> {
-    let minute = number(list, at)?;
-    let metres = number(list, minute.end)?;
-    let end = driver(list, metres.end)?;
+fn front(bytes: &[u8; LINE], at: usize) -> Option<Line> {
+    let (minute, bytes) = number(bytes, at)?;
+    let (metres, bytes) = number(bytes, minute.end)?;
+    let end = metres.end + driver(bytes)? + 1;
     Some(Line {
         minute,
         metres,
@@ -180,124 +83,40 @@ fn form(list: &[u8], at: usize) -> Option<Line> {
     })
 }
 
-/// The line at an index, whose minute is to be at least `least`.
+/// The number at the front of these bytes, and the bytes after its comma. The
+/// loop is of a known length, which lets it be unrolled.
 #[inline(always)]
-fn line(list: &[u8], at: usize, least: u64) -> Result<Line, u32> {
-    match form(list, at) {
-        None => Err(TRIP_FORM),
-        Some(line) if u64::from(line.minute.value) < least => Err(TRIP_ORDER),
-        Some(line) => Ok(line),
-    }
-}
-
-/// Goes through the lines of a list, with where they begin.
-#[inline(always)]
-fn each_line(list: &[u8], mut visit: impl FnMut(usize, &Line)) -> Result<(), u32> {
-    if list.len() > LIST_BYTES {
-        return Err(RANGE);
-    }
-    let mut at = 0;
-    let mut least = 0;
-    while at < list.len() {
-        let line = line(list, at, least)?;
-        visit(at, &line);
-        least = u64::from(line.minute.value) + 1;
-        at = line.end;
-    }
-    Ok(())
-}
-
-/// The trip at a place. Counts the trips.
-#[inline(never)]
-pub fn read_trip(list: &[u8], place: usize, trip: &mut [u32]) -> u32 {
-    let Ok(trip) = <&mut [u32; TRIP_NUMBERS]>::try_from(trip) else {
-        return SHAPE;
-    };
-    let mut found = None;
-    let mut count = 0;
-    let walked = each_line(list, |at, _| {
-        if count == place {
-            found = Some(at);
+fn number(bytes: &[u8], at: usize) -> Option<(Number, &[u8])> {
+    let front: &[u8; DIGITS + 1] = bytes.first_chunk()?;
+    let mut value = 0;
+    let mut digits = 0;
+    while digits < front.len() {
+        let digit = front[digits].wrapping_sub(b'0');
+        if digit > 9 {
+            break;
         }
-        count += 1;
-    });
-    if let Err(refused) = walked {
-        return refused;
+        value = 10 * value + u64::from(digit);
+        digits += 1;
     }
-    // The metres are worked out for this line alone.
-    if let Some(line) = found.and_then(|at| form(list, at)) {
-        *trip = line.trip();
+    if digits == 0 || digits == front.len() || front[digits] != b',' {
+        return None;
     }
-    count as u32
-}
-
-/// The trip of the line at an index. Counts up to the next line.
-#[inline(never)]
-pub fn next_trip(list: &[u8], at: usize, least: usize, trip: &mut [u32]) -> u32 {
-    let Ok(trip) = <&mut [u32; TRIP_NUMBERS]>::try_from(trip) else {
-        return SHAPE;
+    let value = u32::try_from(value).ok()?;
+    let zeros = match front[0] {
+        b'0' => digits - 1 - value.checked_ilog10().unwrap_or(0) as usize,
+        _ => 0,
     };
-    if list.len() > LIST_BYTES {
-        return RANGE;
-    }
-    if at >= list.len() {
-        return 0;
-    }
-    match line(list, at, least as u64) {
-        Ok(line) => {
-            *trip = line.trip();
-            line.end as u32
-        }
-        Err(refused) => refused,
-    }
+    let end = at + digits + 1;
+    Some((Number { value, zeros, end }, bytes.get(digits + 1..)?))
 }
 
-/// The list in its one spelling. Counts its bytes.
-#[inline(never)]
-pub fn write_trips(list: &[u8], buffer: &mut [u8]) -> u32 {
-    if buffer.len() != LIST_BYTES {
-        return SHAPE;
-    }
-    let mut zeros = 0;
-    if let Err(refused) = each_line(list, |_, line| zeros += line.zeros()) {
-        return refused;
-    }
-    let buffer = &mut buffer[..list.len() - zeros];
-    if zeros == 0 {
-        buffer.copy_from_slice(list);
-        return list.len() as u32;
-    }
-    let mut to = 0;
-    let walked = each_line(list, |at, line| {
-        let minute = &list[at + line.minute.zeros..];
-        let length = line.minute.end - line.minute.zeros - at;
-        copy::<16>(minute, buffer, to, length);
-        to += length;
-        let rest = &list[line.minute.end + line.metres.zeros..];
-        let length = line.end - line.metres.zeros - line.minute.end;
-        copy::<32>(rest, buffer, to, length);
-        to += length;
-    });
-    debug_assert_eq!((walked, to), (Ok(()), buffer.len()));
-    to as u32
-}
-
-/// Copies the front of a slice, at most a block. The whole block where both have
-/// it: what comes after is copied later.
+/// The length of the driver at the front of these bytes, with LF after it.
 #[inline(always)]
-fn copy<const BLOCK: usize>(from: &[u8], buffer: &mut [u8], to: usize, length: usize) {
-    let buffer = &mut buffer[to..];
-    match (
-        from.first_chunk::<BLOCK>(),
-        buffer.first_chunk_mut::<BLOCK>(),
-    ) {
-        (Some(from), Some(to)) => *to = *from,
-        _ => copy_last(&from[..length], &mut buffer[..length]),
+fn driver(bytes: &[u8]) -> Option<usize> {
+    let front: &[u8; CHARACTERS + 1] = bytes.first_chunk()?;
+    let mut length = 0;
+    while length < front.len() && IN_DRIVER[usize::from(front[length])] {
+        length += 1;
     }
-}
-
-#[cold]
-#[inline(never)]
-fn copy_last(from: &[u8], to: &mut [u8]) {
-    to.copy_from_slice(from);
+    (length > 0 && length < front.len() && front[length] == b'\n').then_some(length)
 }

@@ -1,5 +1,5 @@
-//! The tuned calls on trip lists.
+//! The tuned calls on trip lists, byte by byte.
 
 mod worked_trips;
 
-use tuned as calls;
+use tuned::trips as calls;

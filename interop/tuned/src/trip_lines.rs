@@ -1,0 +1,166 @@
+//! The calls on trip lists, over any way to read a line.
+
+use layout::{LIST_BYTES, TRIP_NUMBERS};
+
+use crate::{RANGE, SHAPE};
+
+const TRIP_FORM: u32 = 10 << 16;
+const TRIP_ORDER: u32 = 11 << 16;
+
+/// A number of a line.
+pub struct Number {
+    pub value: u32,
+    /// Leading zeros that its spelling goes without.
+    pub zeros: usize,
+    /// The index after its comma.
+    pub end: usize,
+}
+
+/// A line of a list.
+pub struct Line {
+    pub minute: Number,
+    pub metres: Number,
+    /// The index after its LF.
+    pub end: usize,
+}
+
+impl Line {
+    /// The numbers that the trip is told as.
+    #[inline(always)]
+    fn trip(&self) -> [u32; TRIP_NUMBERS] {
+        let driver = self.metres.end;
+        [
+            self.minute.value,
+            self.metres.value,
+            driver as u32,
+            (self.end - 1 - driver) as u32,
+        ]
+    }
+
+    /// Leading zeros of both numbers.
+    #[inline(always)]
+    fn zeros(&self) -> usize {
+        self.minute.zeros + self.metres.zeros
+    }
+}
+
+/// A way to read and to spell lines.
+pub trait Lines {
+    /// The line at an index, where one has the form.
+    fn form(list: &[u8], at: usize) -> Option<Line>;
+    /// Writes a list without leading zeros. All its lines have the form, and the
+    /// buffer has room for what is written and no more.
+    fn spell(list: &[u8], buffer: &mut [u8]);
+}
+
+/// The line at an index, whose minute is to be at least `least`.
+#[inline(always)]
+fn line<L: Lines>(list: &[u8], at: usize, least: u64) -> Result<Line, u32> {
+    match L::form(list, at) {
+        None => Err(TRIP_FORM),
+        Some(line) if u64::from(line.minute.value) < least => Err(TRIP_ORDER),
+        Some(line) => Ok(line),
+    }
+}
+
+/// Goes through the lines of a list, with where they begin.
+#[inline(always)]
+fn each_line<L: Lines>(list: &[u8], mut visit: impl FnMut(usize, &Line)) -> Result<(), u32> {
+    if list.len() > LIST_BYTES {
+        return Err(RANGE);
+    }
+    let mut at = 0;
+    let mut least = 0;
+    while at < list.len() {
+        let line = line::<L>(list, at, least)?;
+        visit(at, &line);
+        least = u64::from(line.minute.value) + 1;
+        at = line.end;
+    }
+    Ok(())
+}
+
+#[inline(always)]
+pub fn read_trip<L: Lines>(list: &[u8], place: usize, trip: &mut [u32]) -> u32 {
+    let Ok(trip) = <&mut [u32; TRIP_NUMBERS]>::try_from(trip) else {
+        return SHAPE;
+    };
+    let mut found = None;
+    let mut count = 0;
+    let walked = each_line::<L>(list, |at, _| {
+        if count == place {
+            found = Some(at);
+        }
+        count += 1;
+    });
+    if let Err(refused) = walked {
+        return refused;
+    }
+    // The trip is worked out for this line alone.
+    if let Some(line) = found.and_then(|at| L::form(list, at)) {
+        *trip = line.trip();
+    }
+    count as u32
+}
+
+#[inline(always)]
+pub fn next_trip<L: Lines>(list: &[u8], at: usize, least: usize, trip: &mut [u32]) -> u32 {
+    let Ok(trip) = <&mut [u32; TRIP_NUMBERS]>::try_from(trip) else {
+        return SHAPE;
+    };
+    if list.len() > LIST_BYTES {
+        return RANGE;
+    }
+    if at >= list.len() {
+        return 0;
+    }
+    match line::<L>(list, at, least as u64) {
+        Ok(line) => {
+            *trip = line.trip();
+            line.end as u32
+        }
+        Err(refused) => refused,
+    }
+}
+
+#[inline(always)]
+pub fn write_trips<L: Lines>(list: &[u8], buffer: &mut [u8]) -> u32 {
+    if buffer.len() != LIST_BYTES {
+        return SHAPE;
+    }
+    let mut zeros = 0;
+    if let Err(refused) = each_line::<L>(list, |_, line| zeros += line.zeros()) {
+        return refused;
+    }
+    let buffer = &mut buffer[..list.len() - zeros];
+    if zeros == 0 {
+        buffer.copy_from_slice(list);
+    } else {
+        L::spell(list, buffer);
+    }
+    buffer.len() as u32
+}
+
+/// The calls of a module, by its way to read lines.
+macro_rules! calls {
+    ($lines:ty) => {
+        /// The trip at a place. Counts the trips.
+        #[inline(never)]
+        pub fn read_trip(list: &[u8], place: usize, trip: &mut [u32]) -> u32 {
+            $crate::trip_lines::read_trip::<$lines>(list, place, trip)
+        }
+
+        /// The trip of the line at an index. Counts up to the next line.
+        #[inline(never)]
+        pub fn next_trip(list: &[u8], at: usize, least: usize, trip: &mut [u32]) -> u32 {
+            $crate::trip_lines::next_trip::<$lines>(list, at, least, trip)
+        }
+
+        /// The list in its one spelling. Counts its bytes.
+        #[inline(never)]
+        pub fn write_trips(list: &[u8], buffer: &mut [u8]) -> u32 {
+            $crate::trip_lines::write_trips::<$lines>(list, buffer)
+        }
+    };
+}
+pub(crate) use calls;
