@@ -116,6 +116,11 @@ impl Scenario {
         self.steps.iter().map(calls).sum()
     }
 
+    /// Whether it is one of trip lists.
+    pub fn is_on_lists(&self) -> bool {
+        !self.lists.is_empty()
+    }
+
     /// A device that is ready for the steps.
     pub fn ready<S: Calls>(&self) -> Run {
         let mut run = Run::new(&self.lists);
