@@ -36,21 +36,12 @@ impl Line {
             (self.end - 1 - driver) as u32,
         ]
     }
-
-    /// Leading zeros of both numbers.
-    #[inline(always)]
-    fn zeros(&self) -> usize {
-        self.minute.zeros + self.metres.zeros
-    }
 }
 
-/// A way to read and to spell lines.
+/// A way to read lines.
 pub trait Lines {
     /// The line at an index, where one has the form.
     fn form(list: &[u8], at: usize) -> Option<Line>;
-    /// Writes a list without leading zeros. All its lines have the form, and the
-    /// buffer has room for what is written and no more.
-    fn spell(list: &[u8], buffer: &mut [u8]);
 }
 
 /// The line at an index, whose minute is to be at least `least`.
@@ -123,22 +114,52 @@ pub fn next_trip<L: Lines>(list: &[u8], at: usize, least: usize, trip: &mut [u32
     }
 }
 
+/// The most bytes of a number, with its comma, and of what comes after it in a
+/// line, as blocks that are copied at once.
+const NUMBER_BLOCK: usize = 16;
+const REST_BLOCK: usize = 32;
+
 #[inline(always)]
 pub fn write_trips<L: Lines>(list: &[u8], buffer: &mut [u8]) -> u32 {
     if buffer.len() != LIST_BYTES {
         return SHAPE;
     }
-    let mut zeros = 0;
-    if let Err(refused) = each_line::<L>(list, |_, line| zeros += line.zeros()) {
+    // A refusal leaves the buffer, so it gets the spelling only when all of it is there.
+    let mut spelled = [0; LIST_BYTES];
+    let mut to = 0;
+    let walked = each_line::<L>(list, |at, line| {
+        let minute = at + line.minute.zeros..line.minute.end;
+        copy::<NUMBER_BLOCK>(&list[minute.start..], &mut spelled, to, minute.len());
+        to += minute.len();
+        let rest = line.minute.end + line.metres.zeros..line.end;
+        copy::<REST_BLOCK>(&list[rest.start..], &mut spelled, to, rest.len());
+        to += rest.len();
+    });
+    if let Err(refused) = walked {
         return refused;
     }
-    let buffer = &mut buffer[..list.len() - zeros];
-    if zeros == 0 {
-        buffer.copy_from_slice(list);
-    } else {
-        L::spell(list, buffer);
+    buffer[..to].copy_from_slice(&spelled[..to]);
+    to as u32
+}
+
+/// Copies the front of a slice, at most a block. The whole block where both have
+/// it: what comes after is copied later.
+#[inline(always)]
+fn copy<const BLOCK: usize>(from: &[u8], buffer: &mut [u8], to: usize, length: usize) {
+    let buffer = &mut buffer[to..];
+    match (
+        from.first_chunk::<BLOCK>(),
+        buffer.first_chunk_mut::<BLOCK>(),
+    ) {
+        (Some(from), Some(to)) => *to = *from,
+        _ => copy_last(&from[..length], &mut buffer[..length]),
     }
-    buffer.len() as u32
+}
+
+#[cold]
+#[inline(never)]
+fn copy_last(from: &[u8], to: &mut [u8]) {
+    to.copy_from_slice(from);
 }
 
 /// The calls of a module, by its way to read lines.

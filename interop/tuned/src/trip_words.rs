@@ -18,23 +18,6 @@ impl Lines for Words {
             end,
         })
     }
-
-    /// Copies the two pieces of each line that are kept.
-    #[inline(always)]
-    fn spell(list: &[u8], buffer: &mut [u8]) {
-        let mut at = 0;
-        let mut to = 0;
-        while let Some(line) = Words::form(list, at) {
-            let minute = at + line.minute.zeros..line.minute.end;
-            copy::<16>(&list[minute.start..], buffer, to, minute.len());
-            to += minute.len();
-            let rest = line.minute.end + line.metres.zeros..line.end;
-            copy::<32>(&list[rest.start..], buffer, to, rest.len());
-            to += rest.len();
-            at = line.end;
-        }
-        debug_assert_eq!((at, to), (list.len(), buffer.len()));
-    }
 }
 
 /// A word with this byte eight times.
@@ -158,24 +141,4 @@ fn driver(list: &[u8], at: usize) -> Option<usize> {
         _ => byte(second, letters),
     };
     (after == b'\n').then_some(at + 8 + letters + 1)
-}
-
-/// Copies the front of a slice, at most a block. The whole block where both have
-/// it: what comes after is copied later.
-#[inline(always)]
-fn copy<const BLOCK: usize>(from: &[u8], buffer: &mut [u8], to: usize, length: usize) {
-    let buffer = &mut buffer[to..];
-    match (
-        from.first_chunk::<BLOCK>(),
-        buffer.first_chunk_mut::<BLOCK>(),
-    ) {
-        (Some(from), Some(to)) => *to = *from,
-        _ => copy_last(&from[..length], &mut buffer[..length]),
-    }
-}
-
-#[cold]
-#[inline(never)]
-fn copy_last(from: &[u8], to: &mut [u8]) {
-    to.copy_from_slice(from);
 }

@@ -33,31 +33,6 @@ impl Lines for Bytes {
             None => last_line(list, at),
         }
     }
-
-    /// Copies each byte as it is found to be kept.
-    #[inline(always)]
-    fn spell(list: &[u8], buffer: &mut [u8]) {
-        let mut at = 0;
-        let mut to = 0;
-        while at < list.len() {
-            for end in *b",\n" {
-                // of zeros alone the last is kept
-                while at + 1 < list.len() && list[at] == b'0' && list[at + 1] != b',' {
-                    at += 1;
-                }
-                while at < list.len() {
-                    let byte = list[at];
-                    buffer[to] = byte;
-                    at += 1;
-                    to += 1;
-                    if byte == end {
-                        break;
-                    }
-                }
-            }
-        }
-        debug_assert_eq!(to, buffer.len());
-    }
 }
 
 /// The line at an index near the end: with bytes after the list that no field has.
