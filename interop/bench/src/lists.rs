@@ -3,9 +3,10 @@
 use layout::LIST_BYTES;
 use random_sessions::rng::Rng;
 
-/// Lists of a scenario. So many that a processor does not learn the lengths of
-/// their fields by heart, as it does those of one list.
-const LISTS: usize = 64;
+/// Lists of a scenario. A box reads a list once, and does not know it; so many
+/// that a processor does not learn the lengths of their fields by heart, as it
+/// does those of 64 lists.
+pub const LISTS: usize = 1_024;
 
 const DRIVERS: [&str; 6] = ["ANN", "OLGA", "HUGO7", "MARTIN", "D4NIELA", "CHARLOTT"];
 

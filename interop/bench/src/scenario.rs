@@ -533,6 +533,7 @@ mod tests {
     use random_calls::Reference;
 
     use super::*;
+    use crate::lists::LISTS;
 
     fn work(name: &str) -> Vec<Work> {
         let scenarios = all();
@@ -571,11 +572,11 @@ mod tests {
         mount.insert(4, Fill(2_596));
         assert_eq!(work("mount"), mount.repeat(4));
 
-        assert_eq!(work("trip list: read"), [Scan(4_096); 64]);
-        assert_eq!(work("trip list: walk"), [Scan(4_096); 64]);
-        assert_eq!(work("trip list: write, spelled"), [Copy(4_096); 64]);
+        assert_eq!(work("trip list: read"), [Scan(4_096); LISTS]);
+        assert_eq!(work("trip list: walk"), [Scan(4_096); LISTS]);
+        assert_eq!(work("trip list: write, spelled"), [Copy(4_096); LISTS]);
         let zeros = work("trip list: write, zeros");
-        assert_eq!(zeros.len(), 64);
+        assert_eq!(zeros.len(), LISTS);
         assert!(zeros.iter().all(|&work| work != Copy(4_096)));
 
         // a file with bytes, and seven without

@@ -1,5 +1,7 @@
 //! The calls on trip lists, over any way to read a line.
 
+use core::ops::Range;
+
 use layout::{LIST_BYTES, TRIP_NUMBERS};
 
 use crate::{RANGE, SHAPE};
@@ -114,26 +116,19 @@ pub fn next_trip<L: Lines>(list: &[u8], at: usize, least: usize, trip: &mut [u32
     }
 }
 
-/// The most bytes of a number, with its comma, and of what comes after it in a
-/// line, as blocks that are copied at once.
-const NUMBER_BLOCK: usize = 16;
-const REST_BLOCK: usize = 32;
-
 #[inline(always)]
 pub fn write_trips<L: Lines>(list: &[u8], buffer: &mut [u8]) -> u32 {
     if buffer.len() != LIST_BYTES {
         return SHAPE;
     }
-    // A refusal leaves the buffer, so it gets the spelling only when all of it is there.
+    // A refusal leaves the buffer: it gets the spelling when all of that is there.
     let mut spelled = [0; LIST_BYTES];
     let mut to = 0;
     let walked = each_line::<L>(list, |at, line| {
         let minute = at + line.minute.zeros..line.minute.end;
-        copy::<NUMBER_BLOCK>(&list[minute.start..], &mut spelled, to, minute.len());
-        to += minute.len();
+        to = copy::<16>(list, minute, &mut spelled, to);
         let rest = line.minute.end + line.metres.zeros..line.end;
-        copy::<REST_BLOCK>(&list[rest.start..], &mut spelled, to, rest.len());
-        to += rest.len();
+        to = copy::<32>(list, rest, &mut spelled, to);
     });
     if let Err(refused) = walked {
         return refused;
@@ -142,18 +137,25 @@ pub fn write_trips<L: Lines>(list: &[u8], buffer: &mut [u8]) -> u32 {
     to as u32
 }
 
-/// Copies the front of a slice, at most a block. The whole block where both have
-/// it: what comes after is copied later.
+/// Copies bytes of a list, at most a block, to an index of the spelling, and
+/// answers the index after them. The whole block where both have it: what comes
+/// after is copied later.
 #[inline(always)]
-fn copy<const BLOCK: usize>(from: &[u8], buffer: &mut [u8], to: usize, length: usize) {
-    let buffer = &mut buffer[to..];
+fn copy<const BLOCK: usize>(
+    list: &[u8],
+    bytes: Range<usize>,
+    spelled: &mut [u8],
+    to: usize,
+) -> usize {
+    let end = to + bytes.len();
     match (
-        from.first_chunk::<BLOCK>(),
-        buffer.first_chunk_mut::<BLOCK>(),
+        list[bytes.start..].first_chunk::<BLOCK>(),
+        spelled[to..].first_chunk_mut(),
     ) {
         (Some(from), Some(to)) => *to = *from,
-        _ => copy_last(&from[..length], &mut buffer[..length]),
+        _ => copy_last(&list[bytes], &mut spelled[to..end]),
     }
+    end
 }
 
 #[cold]
