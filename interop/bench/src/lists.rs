@@ -36,16 +36,24 @@ impl Spelling {
 /// the metres have three to six digits.
 pub fn lists(spelling: Spelling) -> Vec<Vec<u8>> {
     let mut rng = Rng::new(7);
-    let full = |list: &Vec<u8>| list.len() == LIST_BYTES;
     let lists = std::iter::repeat_with(|| list(&mut rng, spelling));
-    lists.filter(full).take(LISTS).collect()
+    lists.take(LISTS).collect()
 }
 
-/// A list of as many bytes as its last line makes it, 4,096 at the least.
+/// Left for the last lines of a list, which are drawn until they fill it.
+const LAST_BYTES: usize = 128;
+
 fn list(rng: &mut Rng, spelling: Spelling) -> Vec<u8> {
     let mut list = Vec::new();
     let mut minute = rng.between(25_000_000, 35_000_000);
-    while list.len() < LIST_BYTES {
+    let mut before_last = (0, minute);
+    while list.len() != LIST_BYTES {
+        if list.len() > LIST_BYTES {
+            list.truncate(before_last.0);
+            minute = before_last.1;
+        } else if list.len() < LIST_BYTES - LAST_BYTES {
+            before_last = (list.len(), minute);
+        }
         minute += rng.between(1, 90);
         let least = rng.pick(&[100, 1_000, 10_000, 100_000]);
         let metres = rng.between(least, 10 * least - 1);
