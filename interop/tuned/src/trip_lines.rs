@@ -9,9 +9,17 @@ use crate::{RANGE, SHAPE};
 const TRIP_FORM: u32 = 10 << 16;
 const TRIP_ORDER: u32 = 11 << 16;
 
+/// The most digits of a number.
+pub const DIGITS: usize = 10;
+/// The most characters of a driver.
+pub const CHARACTERS: usize = 16;
+/// The longest line, with its commas and LF.
+pub const LINE: usize = 2 * (DIGITS + 1) + CHARACTERS + 1;
+
 /// A number of a line.
 pub struct Number {
-    pub value: u32,
+    /// Its value, of 32 bits.
+    pub value: u64,
     /// Leading zeros that its spelling goes without.
     pub zeros: usize,
     /// The index after its comma.
@@ -32,8 +40,8 @@ impl Line {
     fn trip(&self) -> [u32; TRIP_NUMBERS] {
         let driver = self.metres.end;
         [
-            self.minute.value,
-            self.metres.value,
+            self.minute.value as u32,
+            self.metres.value as u32,
             driver as u32,
             (self.end - 1 - driver) as u32,
         ]
@@ -51,7 +59,7 @@ pub trait Lines {
 fn line<L: Lines>(list: &[u8], at: usize, least: u64) -> Result<Line, u32> {
     match L::form(list, at) {
         None => Err(TRIP_FORM),
-        Some(line) if u64::from(line.minute.value) < least => Err(TRIP_ORDER),
+        Some(line) if line.minute.value < least => Err(TRIP_ORDER),
         Some(line) => Ok(line),
     }
 }
@@ -67,7 +75,7 @@ fn each_line<L: Lines>(list: &[u8], mut visit: impl FnMut(usize, &Line)) -> Resu
     while at < list.len() {
         let line = line::<L>(list, at, least)?;
         visit(at, &line);
-        least = u64::from(line.minute.value) + 1;
+        least = line.minute.value + 1;
         at = line.end;
     }
     Ok(())
@@ -125,10 +133,14 @@ pub fn write_trips<L: Lines>(list: &[u8], buffer: &mut [u8]) -> u32 {
     let mut spelled = [0; LIST_BYTES];
     let mut to = 0;
     let walked = each_line::<L>(list, |at, line| {
-        let minute = at + line.minute.zeros..line.minute.end;
-        to = copy::<16>(list, minute, &mut spelled, to);
-        let rest = line.minute.end + line.metres.zeros..line.end;
-        to = copy::<32>(list, rest, &mut spelled, to);
+        let first = at + line.minute.zeros;
+        copy(list, first..line.end, &mut spelled, to);
+        to += line.minute.end - first;
+        let first = line.minute.end + line.metres.zeros;
+        if line.metres.zeros > 0 {
+            copy(list, first..line.end, &mut spelled, to);
+        }
+        to += line.end - first;
     });
     if let Err(refused) = walked {
         return refused;
@@ -137,31 +149,23 @@ pub fn write_trips<L: Lines>(list: &[u8], buffer: &mut [u8]) -> u32 {
     to as u32
 }
 
-/// Copies bytes of a list, at most a block, to an index of the spelling, and
-/// answers the index after them. The whole block where both have it: what comes
-/// after is copied later.
+/// Copies bytes of a line to an index. As many as the longest line has where both
+/// have them: what comes after is copied later.
 #[inline(always)]
-fn copy<const BLOCK: usize>(
-    list: &[u8],
-    bytes: Range<usize>,
-    spelled: &mut [u8],
-    to: usize,
-) -> usize {
-    let end = to + bytes.len();
+fn copy(list: &[u8], bytes: Range<usize>, spelled: &mut [u8], to: usize) {
     match (
-        list[bytes.start..].first_chunk::<BLOCK>(),
+        list[bytes.start..].first_chunk::<LINE>(),
         spelled[to..].first_chunk_mut(),
     ) {
         (Some(from), Some(to)) => *to = *from,
-        _ => copy_last(&list[bytes], &mut spelled[to..end]),
+        _ => copy_last(&list[bytes], &mut spelled[to..]),
     }
-    end
 }
 
 #[cold]
 #[inline(never)]
 fn copy_last(from: &[u8], to: &mut [u8]) {
-    to.copy_from_slice(from);
+    to[..from.len()].copy_from_slice(from);
 }
 
 /// The calls of a module, by its way to read lines.

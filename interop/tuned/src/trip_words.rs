@@ -97,7 +97,7 @@ fn number(list: &[u8], at: usize) -> Option<Number> {
         return None;
     }
     Some(Number {
-        value: value(word << (64 - 8 * digits)) as u32,
+        value: value(word << (64 - 8 * digits)),
         zeros: zeros.min(digits - 1),
         end: at + digits + 1,
     })
@@ -111,7 +111,7 @@ fn long_number(list: &[u8], at: usize, mut value: u64, mut zeros: usize) -> Opti
         let byte = *list.get(at + digits)?;
         if byte == b',' {
             return Some(Number {
-                value: u32::try_from(value).ok()?,
+                value: u32::try_from(value).ok()?.into(),
                 zeros: zeros.min(digits - 1),
                 end: at + digits + 1,
             });

@@ -1,13 +1,6 @@
 //! Trip lists: lines `minute,metres,driver`, byte by byte.
 
-use crate::trip_lines::{calls, Line, Lines, Number};
-
-/// The most digits of a number.
-const DIGITS: usize = 10;
-/// The most characters of a driver.
-const CHARACTERS: usize = 16;
-/// The longest line, with its commas and LF.
-const LINE: usize = 2 * (DIGITS + 1) + CHARACTERS + 1;
+use crate::trip_lines::{calls, Line, Lines, Number, CHARACTERS, DIGITS, LINE};
 
 /// Whether a driver may have the byte.
 const IN_DRIVER: [bool; 256] = {
@@ -28,7 +21,7 @@ impl Lines for Bytes {
     #[inline(always)]
     fn form(list: &[u8], at: usize) -> Option<Line> {
         // No loop asks for the end of the list where the longest line fits.
-        match list.get(at..).and_then(|rest| rest.first_chunk()) {
+        match list[at..].first_chunk() {
             Some(bytes) => front(bytes, at),
             None => last_line(list, at),
         }
@@ -40,8 +33,8 @@ impl Lines for Bytes {
 #[inline(never)]
 fn last_line(list: &[u8], at: usize) -> Option<Line> {
     let mut bytes = [0; LINE];
-    let rest = list.get(at..)?;
-    bytes.get_mut(..rest.len())?.copy_from_slice(rest);
+    let rest = &list[at..];
+    bytes[..rest.len()].copy_from_slice(rest);
     front(&bytes, at)
 }
 
@@ -65,7 +58,7 @@ fn number(bytes: &[u8], at: usize) -> Option<(Number, &[u8])> {
     let front: &[u8; DIGITS + 1] = bytes.first_chunk()?;
     let mut value = 0;
     let mut digits = 0;
-    while digits < front.len() {
+    while digits < DIGITS {
         let digit = front[digits].wrapping_sub(b'0');
         if digit > 9 {
             break;
@@ -73,10 +66,9 @@ fn number(bytes: &[u8], at: usize) -> Option<(Number, &[u8])> {
         value = 10 * value + u64::from(digit);
         digits += 1;
     }
-    if digits == 0 || digits == front.len() || front[digits] != b',' {
+    if digits == 0 || front[digits] != b',' || value > u32::MAX.into() {
         return None;
     }
-    let value = u32::try_from(value).ok()?;
     let zeros = match front[0] {
         b'0' => digits - 1 - value.checked_ilog10().unwrap_or(0) as usize,
         _ => 0,
@@ -90,8 +82,8 @@ fn number(bytes: &[u8], at: usize) -> Option<(Number, &[u8])> {
 fn driver(bytes: &[u8]) -> Option<usize> {
     let front: &[u8; CHARACTERS + 1] = bytes.first_chunk()?;
     let mut length = 0;
-    while length < front.len() && IN_DRIVER[usize::from(front[length])] {
+    while length < CHARACTERS && IN_DRIVER[usize::from(front[length])] {
         length += 1;
     }
-    (length > 0 && length < front.len() && front[length] == b'\n').then_some(length)
+    (length > 0 && front[length] == b'\n').then_some(length)
 }
