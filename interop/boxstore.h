@@ -87,9 +87,9 @@ extern "C" {
 #endif
 
 /* The version of this interface. */
-#define BOXSTORE_VERSION "0.1.0"
+#define BOXSTORE_VERSION "0.2.0"
 #define BOXSTORE_VERSION_MAJOR 0
-#define BOXSTORE_VERSION_MINOR 1
+#define BOXSTORE_VERSION_MINOR 2
 #define BOXSTORE_VERSION_PATCH 0
 
 #define BOXSTORE_FILES 8
