@@ -270,7 +270,8 @@ uint32_t boxstore_next_trip(const uint8_t *list, size_t list_len, size_t at, siz
 
 /* Write trips: copies the list into the front of the buffer, without the leading zeros of its numbers, and counts the bytes: never
  * more than the list has. All lists of the same trips get this one spelling, and no others do. The rest of the buffer keeps its
- * bytes. SHAPE where the buffer has not 4,096 bytes, else refused as read trip is. The buffer may not be the list itself. */
+ * bytes. SHAPE where the buffer has not 4,096 bytes, else refused as read trip is. The buffer may not be the list itself. Takes
+ * about 4 KB of stack, for the spelled list. */
 uint32_t boxstore_write_trips(const uint8_t *list, size_t list_len, uint8_t *buffer, size_t buffer_len);
 
 /* The memory of one store. All zeros, as a static one begins, it is down and its files are empty. */

@@ -114,6 +114,8 @@ impl fmt::Debug for Trips<'_> {
 /// answers the part of the buffer that has it; the rest keeps its bytes. All
 /// lists of the same trips share it, and no others do.
 ///
+/// The call takes about 4 KB of stack, for the spelled list.
+///
 /// ```
 /// use boxstore::{write_trips, LIST_BYTES};
 ///
