@@ -3,9 +3,9 @@
 use layout::LIST_BYTES;
 use random_sessions::rng::Rng;
 
-/// Lists of a scenario. A box reads a list once, and does not know it; so many
-/// that a processor does not learn the lengths of their fields by heart, as it
-/// does those of 64 lists.
+/// Lists of a scenario. A box reads a list once, so it is new to it: there are
+/// more of them than a processor learns by heart, as it does the lengths of the
+/// fields of 64 lists.
 pub const LISTS: usize = 1_024;
 
 const DRIVERS: [&str; 6] = ["ANN", "OLGA", "HUGO7", "MARTIN", "D4NIELA", "CHARLOTT"];
