@@ -11,6 +11,8 @@
  *
  * struct boxstore is that memory of one store, and the box_ calls lend it whole: most programs need no others.
  *
+ * Beside the store there are calls on trip lists, which know nothing of it: texts in memory of the caller, as from a file.
+ *
  * media and sizes stand for what survives a loss of power; frames and state do not survive it. After one, make the state down
  * (boxstore_down) and mount. The mount then finds each file as its last completed sync left it, changed by a first part of the
  * bytes of each later write, from none to all, and by each later truncate or not. That presumes of the part behind media and sizes that it does each media write whole or not at all, and in order: PAGE (256 bytes of a file), SIZE (one
@@ -38,7 +40,7 @@
  *
  * The answer is one word, 65,536 * number + count. Number 0 is done, so a done call answers its count, below
  * BOXSTORE_REFUSED. Otherwise the number says why the call was refused, and is the first of these that applies (of the calls on
- * files; the last four calls say their own):
+ * files; those from boxstore_truncate_sizes on say their own):
  *
  *   2 SHAPE     media, sizes, frames or state, where lent, has another length than above; sizes_len counts numbers and not bytes:
  *               8, not 32
@@ -50,7 +52,12 @@
  *   8 NO ROOM   a write of at least one byte whose first page is not cached while 24 pages are
  *   9 CUT       sync, mount and format: the budget is below the media writes needed
  *
- * (1 is of the session program.) A refusal of 2 to 8 has count 0 and leaves all memory as it came. CUT has the budget as its count: that many first media
+ * (1 is of the session program.) The calls on trip lists give SHAPE, RANGE and, for the first bad line,
+ *
+ *  10 TRIP FORM    the line lacks the form
+ *  11 TRIP ORDER   its minute is not above that of the line before
+ *
+ * All refusals but CUT have count 0 and leave all memory as it came. CUT has the budget as its count: that many first media
  * writes were done, and the state is down, as after a loss of power at that moment.
  *
  * The cache state, byte by byte:
@@ -80,9 +87,9 @@ extern "C" {
 #endif
 
 /* The version of this interface. */
-#define BOXSTORE_VERSION "0.1.0"
+#define BOXSTORE_VERSION "0.2.0"
 #define BOXSTORE_VERSION_MAJOR 0
-#define BOXSTORE_VERSION_MINOR 1
+#define BOXSTORE_VERSION_MINOR 2
 #define BOXSTORE_VERSION_PATCH 0
 
 #define BOXSTORE_FILES 8
@@ -92,6 +99,9 @@ extern "C" {
 #define BOXSTORE_MEDIA_BYTES 32768
 #define BOXSTORE_FRAMES_BYTES 6144
 #define BOXSTORE_STATE_BYTES 137
+
+/* The greatest length of a trip list, and the length of the buffer that one is written into. */
+#define BOXSTORE_LIST_BYTES 4096
 
 /* Where the parts of the cache state begin. */
 #define BOXSTORE_STATE_MOUNTED 0
@@ -116,7 +126,9 @@ enum boxstore_answer_number {
     BOXSTORE_NO_FILE = 6,
     BOXSTORE_RANGE = 7,
     BOXSTORE_NO_ROOM = 8,
-    BOXSTORE_CUT = 9
+    BOXSTORE_CUT = 9,
+    BOXSTORE_TRIP_FORM = 10,
+    BOXSTORE_TRIP_ORDER = 11
 };
 
 /* The number of an answer, and its count. */
@@ -136,6 +148,8 @@ static inline const char *boxstore_name(uint32_t answer)
     case BOXSTORE_RANGE: return "RANGE";
     case BOXSTORE_NO_ROOM: return "NO ROOM";
     case BOXSTORE_CUT: return "CUT";
+    case BOXSTORE_TRIP_FORM: return "TRIP FORM";
+    case BOXSTORE_TRIP_ORDER: return "TRIP ORDER";
     default: return "unknown";
     }
 }
@@ -151,6 +165,8 @@ static inline const char *boxstore_meaning(uint32_t answer)
     case BOXSTORE_RANGE: return "a position, a size, or the end of a write is above its limit";
     case BOXSTORE_NO_ROOM: return "the first page of the write is not cached, while 24 others are";
     case BOXSTORE_CUT: return "the budget was below the media writes needed; the device is down";
+    case BOXSTORE_TRIP_FORM: return "a line of the trip list lacks the form minute,metres,driver";
+    case BOXSTORE_TRIP_ORDER: return "the minute of a trip is not above that of the line before";
     default: return "no call gives this answer";
     }
 }
@@ -236,6 +252,28 @@ uint32_t boxstore_write_size(const uint8_t *media, size_t media_len, uint32_t *s
  * above the stored size. */
 uint32_t boxstore_trim(uint8_t *media, size_t media_len, uint32_t *sizes, size_t sizes_len, size_t file, size_t n);
 
+/* A trip list has a line `minute,metres,driver` for each trip, and at most 4,096 bytes; one without trips is empty. Every line ends
+ * with LF, the last too, and has no CR. A number has 1 to 10 digits, which may begin with zeros, and is at most 4,294,967,295; a
+ * driver has 1 to 16 characters, A to Z and 0 to 9. From line to line the minutes rise. A trip is told as four numbers: minute,
+ * metres, the index in the list where the driver begins, and its length.
+ *
+ * Read trip: the trip at a place, from 0. Counts the trips of the list; where the place is not below that, the four numbers stay.
+ * SHAPE where there are not four, RANGE where the list is longer; then the first bad line of the whole list decides, wherever the
+ * place is: TRIP FORM, else TRIP ORDER. */
+uint32_t boxstore_read_trip(const uint8_t *list, size_t list_len, size_t place, uint32_t *trip, size_t trip_len);
+
+/* Next trip: the trip of the line that begins at an index, and as count the index after its LF, where the next one begins. Start
+ * with at 0 and least 0; go on with at = count and least = minute + 1, in 64 bits. At or past the end of the list the count is 0
+ * and the four numbers stay. SHAPE and RANGE as above; TRIP FORM where no line of the form begins there, TRIP ORDER where its
+ * minute is below least. Other lines are not looked at. */
+uint32_t boxstore_next_trip(const uint8_t *list, size_t list_len, size_t at, size_t least, uint32_t *trip, size_t trip_len);
+
+/* Write trips: copies the list into the front of the buffer, without the leading zeros of its numbers, and counts the bytes: never
+ * more than the list has. All lists of the same trips get this one spelling, and no others do. The rest of the buffer keeps its
+ * bytes. SHAPE where the buffer has not 4,096 bytes, else refused as read trip is. The buffer may not be the list itself. Takes
+ * about 4 KB of stack, for the spelled list. */
+uint32_t boxstore_write_trips(const uint8_t *list, size_t list_len, uint8_t *buffer, size_t buffer_len);
+
 /* The memory of one store. All zeros, as a static one begins, it is down and its files are empty. */
 struct boxstore {
     uint8_t media[BOXSTORE_MEDIA_BYTES];
@@ -310,6 +348,69 @@ static inline uint32_t box_size(const struct boxstore *store, size_t file)
 {
     uint32_t answer = box_look_count(store, file, 0);
     return answer >= BOXSTORE_REFUSED ? answer : (uint32_t)boxstore_logical_size(store->state, file);
+}
+
+/* A trip. The driver is in the list, and no NUL ends it: printf("%.*s", (int)trip.letters, trip.driver). */
+struct box_trip {
+    uint32_t minute, metres;
+    const char *driver;
+    size_t letters;
+};
+
+/* The trip that four numbers tell of a list. */
+static inline struct box_trip boxstore_trip(const uint8_t *list, const uint32_t *numbers)
+{
+    struct box_trip trip;
+    trip.minute = numbers[0];
+    trip.metres = numbers[1];
+    trip.driver = (const char *)list + numbers[2];
+    trip.letters = numbers[3];
+    return trip;
+}
+
+/* Read trip: as boxstore_read_trip. The trip is filled where the place is below the count, and stays otherwise. */
+static inline uint32_t box_read_trip(const void *list, size_t list_len, size_t place, struct box_trip *trip)
+{
+    uint32_t numbers[4];
+    uint32_t answer = boxstore_read_trip((const uint8_t *)list, list_len, place, numbers, 4);
+    if (answer < BOXSTORE_REFUSED && place < boxstore_count(answer))
+        *trip = boxstore_trip((const uint8_t *)list, numbers);
+    return answer;
+}
+
+/* A walk over a list, and its start. The list is to stay as it is until the walk ends. */
+struct box_trips {
+    const uint8_t *list;
+    size_t list_len, at, least;
+};
+static inline struct box_trips box_walk_trips(const void *list, size_t list_len)
+{
+    struct box_trips trips;
+    trips.list = (const uint8_t *)list;
+    trips.list_len = list_len;
+    trips.at = 0;
+    trips.least = 0;
+    return trips;
+}
+
+/* Next trip of a walk: counts 1 and fills the trip; counts 0 at the end. A walk meets a bad line only when it gets there, is
+ * refused, and gets no further: box_read_trip first, with any place, where the whole list is to be sound. */
+static inline uint32_t box_next_trip(struct box_trips *trips, struct box_trip *trip)
+{
+    uint32_t numbers[4];
+    uint32_t answer = boxstore_next_trip(trips->list, trips->list_len, trips->at, trips->least, numbers, 4);
+    if (answer == 0 || answer >= BOXSTORE_REFUSED)
+        return answer;
+    *trip = boxstore_trip(trips->list, numbers);
+    trips->at = boxstore_count(answer);
+    trips->least = (size_t)numbers[0] + 1;
+    return 1;
+}
+
+/* Write trips: as boxstore_write_trips, into a buffer of BOXSTORE_LIST_BYTES. */
+static inline uint32_t box_write_trips(const void *list, size_t list_len, void *buffer)
+{
+    return boxstore_write_trips((const uint8_t *)list, list_len, (uint8_t *)buffer, BOXSTORE_LIST_BYTES);
 }
 
 #ifdef __cplusplus

@@ -1,6 +1,6 @@
 /*
  * The box store from C: a serial that survives a loss of power, a sync that the budget cuts, a look, refusals, the media writes
- * by themselves, and the names of the answers.
+ * by themselves, trip lists, and the names of the answers.
  *
  *   rt staticlib boxstore
  *   gcc -std=c99 -Wall -Wextra -pedantic -Werror -Iinterop interop/c/power_cut.c target/staticlib/libboxstore.a -o power_cut
@@ -206,26 +206,71 @@ static void media_writes(void)
     require("the logical size of file 0 is 12", boxstore_logical_size(store.state, 0) == 12);
 }
 
+static void trip_lists(void)
+{
+    static const char list[] = "007,0,A\n4294967295,0042,BOB7\n", same_minute[] = "1,1,A\n2,2,B\n2,3,C\n";
+    static uint8_t buffer[BOXSTORE_LIST_BYTES + 1];
+    const size_t length = sizeof list - 1, bad_length = sizeof same_minute - 1;
+    uint32_t numbers[4] = {9, 9, 9, 9};
+    struct box_trip trip;
+    struct box_trips trips;
+
+    expect("read trip 1", box_read_trip(list, length, 1, &trip), BOXSTORE_DONE, 2);
+    require("it is minute 4,294,967,295, 42 m, BOB7", trip.minute == UINT32_MAX && trip.metres == 42
+            && trip.driver == list + 24 && trip.letters == 4);
+    expect("read trip 2", box_read_trip(list, length, 2, &trip), BOXSTORE_DONE, 2);
+    require("there is none: the trip stays", trip.minute == UINT32_MAX && trip.driver == list + 24);
+    trips = box_walk_trips(list, length);
+    expect("next trip", box_next_trip(&trips, &trip), BOXSTORE_DONE, 1);
+    require("it is minute 7, 0 m, A", trip.minute == 7 && trip.metres == 0 && trip.driver == list + 6 && trip.letters == 1);
+    expect("next trip", box_next_trip(&trips, &trip), BOXSTORE_DONE, 1);
+    expect("next trip: the end", box_next_trip(&trips, &trip), BOXSTORE_DONE, 0);
+    require("the trip stays", trip.minute == UINT32_MAX && trip.metres == 42);
+    expect("next trip amid a line, minute 7 at least",
+           boxstore_next_trip((const uint8_t *)list, length, 1, 7, numbers, 4), BOXSTORE_DONE, 8);
+    require("its four numbers", numbers[0] == 7 && numbers[1] == 0 && numbers[2] == 6 && numbers[3] == 1);
+    memset(buffer, '.', sizeof buffer);
+    expect("write trips", box_write_trips(list, length, buffer), BOXSTORE_DONE, 25);
+    require("the leading zeros are gone", memcmp(buffer, "7,0,A\n4294967295,42,BOB7\n", 25) == 0);
+    require("the rest of the buffer keeps its bytes", all(buffer + 25, sizeof buffer - 25, '.'));
+
+    expect("TRIP ORDER: two trips in a minute", box_read_trip(same_minute, bad_length, 0, &trip), BOXSTORE_TRIP_ORDER, 0);
+    trips = box_walk_trips(same_minute, bad_length);
+    expect("a walk gets as far as that", box_next_trip(&trips, &trip), BOXSTORE_DONE, 1);
+    expect("next trip", box_next_trip(&trips, &trip), BOXSTORE_DONE, 1);
+    expect("TRIP ORDER: next trip", box_next_trip(&trips, &trip), BOXSTORE_TRIP_ORDER, 0);
+    expect("TRIP ORDER: again", box_next_trip(&trips, &trip), BOXSTORE_TRIP_ORDER, 0);
+    require("the trip stays", trip.minute == 2 && trip.metres == 2);
+    expect("TRIP FORM: no LF", box_write_trips(list, length - 1, buffer), BOXSTORE_TRIP_FORM, 0);
+    expect("RANGE: a list of 4,097 bytes", box_read_trip(buffer, sizeof buffer, 0, &trip), BOXSTORE_RANGE, 0);
+    expect("SHAPE: the four numbers counted in bytes",
+           boxstore_read_trip((const uint8_t *)list, length, 0, numbers, sizeof numbers), BOXSTORE_SHAPE, 0);
+    expect("SHAPE: three numbers", boxstore_next_trip((const uint8_t *)list, length, 0, 0, numbers, 3), BOXSTORE_SHAPE, 0);
+    expect("SHAPE: a buffer of 4,097 bytes",
+           boxstore_write_trips((const uint8_t *)list, length, buffer, sizeof buffer), BOXSTORE_SHAPE, 0);
+    require("the buffer keeps its bytes", memcmp(buffer, "7,0,A", 5) == 0 && all(buffer + 25, sizeof buffer - 25, '.'));
+}
+
 /* The name of each number, with the least and the greatest count. */
 static void names(void)
 {
     static const char *const expected[] = {"done", "unknown", "SHAPE", "MEDIA", "BOOKS", "DOWN", "NO FILE", "RANGE", "NO ROOM",
-                                           "CUT", "unknown"};
+                                           "CUT", "TRIP FORM", "TRIP ORDER", "unknown"};
     int named = 1, meant = 1;
     unsigned number;
     char version[40];
 
-    for (number = 0; number <= 10; number++) {
+    for (number = 0; number <= 12; number++) {
         uint32_t least = number * BOXSTORE_REFUSED, greatest = least + 65535;
         int unknown = strcmp(boxstore_meaning(least), "no call gives this answer") == 0;
         printf("%u is %s: %s\n", number, boxstore_name(least), boxstore_meaning(least));
         named = named && strcmp(boxstore_name(least), expected[number]) == 0
                 && strcmp(boxstore_name(greatest), expected[number]) == 0;
-        meant = meant && unknown == (number == 1 || number == 10)
+        meant = meant && unknown == (number == 1 || number == 12)
                 && strcmp(boxstore_meaning(greatest), boxstore_meaning(least)) == 0;
     }
     require("each number has its name", named && strcmp(boxstore_name(UINT32_MAX), "unknown") == 0);
-    require("1 and 10 alone mean nothing", meant);
+    require("1 and 12 alone mean nothing", meant);
 
     sprintf(version, "%d.%d.%d", BOXSTORE_VERSION_MAJOR, BOXSTORE_VERSION_MINOR, BOXSTORE_VERSION_PATCH);
     require("the version " BOXSTORE_VERSION " is the same in numbers", strcmp(version, BOXSTORE_VERSION) == 0);
@@ -238,6 +283,7 @@ int main(void)
     look_at_file_1();
     refusals();
     media_writes();
+    trip_lists();
     names();
     puts("power_cut: all as expected");
     return 0;

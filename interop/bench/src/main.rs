@@ -1,6 +1,8 @@
-//! Times the proved store beside the tuned one, beside the plain work, and beside
-//! what a program on Linux would take otherwise. Prints Markdown.
+//! Times the proved store beside the tuned one, on trip lists by words as well,
+//! beside the plain work, and beside what a program on Linux would take
+//! otherwise. Prints Markdown.
 
+mod lists;
 mod others;
 mod scenario;
 mod timing;
@@ -11,10 +13,11 @@ use std::process::ExitCode;
 use std::time::Duration;
 
 use layout::{FILE_BYTES, PAGE_BYTES};
-use random_calls::{store_of, Store};
+use random_calls::store_of;
+use random_lists::trip_lists_by;
 
 use others::{Named, Other, Room};
-use scenario::{different, Run, Scenario, Step, Work};
+use scenario::{different, Calls, Run, Scenario, Step, Work};
 use timing::{measure, median, ratio, Effort, Side};
 
 store_of!(
@@ -27,6 +30,17 @@ store_of!(
     Tuned,
     tuned
 );
+store_of!(
+    /// The same store, with trip lists eight bytes at a time.
+    ByWords,
+    tuned
+);
+trip_lists_by!(Proved, boxstore::raw);
+trip_lists_by!(Tuned, tuned::trips);
+trip_lists_by!(ByWords, tuned::trip_words);
+
+const TUNED: &str = "tuned";
+const BY_WORDS: &str = "by words";
 
 const HELP: &str = "\
 usage: bench                   all scenarios, as Markdown tables
@@ -115,7 +129,10 @@ fn run(options: &Options, out: &mut impl Write) -> io::Result<()> {
     let room = Room::new()?;
     let mut others = others::all(&room.folder)?;
     for scenario in &scenarios {
-        check(scenario).map_err(io::Error::other)?;
+        check::<Tuned>(scenario, TUNED).map_err(io::Error::other)?;
+        if scenario.is_on_lists() {
+            check::<ByWords>(scenario, BY_WORDS).map_err(io::Error::other)?;
+        }
     }
     for (name, other) in &mut others {
         if let Some(other) = other {
@@ -125,8 +142,10 @@ fn run(options: &Options, out: &mut impl Write) -> io::Result<()> {
     if options.check {
         writeln!(
             out,
-            "bench: {} scenarios: proved and tuned give the same answers and leave the same memory",
-            scenarios.len()
+            "bench: {} scenarios: proved and tuned give the same answers and leave the same memory; \
+             so do trip lists by words, in {} of them",
+            scenarios.len(),
+            scenarios.iter().filter(|scenario| scenario.is_on_lists()).count()
         )?;
         for (name, other) in &others {
             match other {
@@ -139,22 +158,22 @@ fn run(options: &Options, out: &mut impl Write) -> io::Result<()> {
 
     writeln!(
         out,
-        "| scenario | calls/s proved | calls/s tuned | time, proved / tuned | bytes/s proved | time, proved / plain copy |"
+        "| scenario | calls/s proved | calls/s tuned | time, proved / tuned | time, proved / by words | bytes/s proved | time, proved / plain copy |"
     )?;
-    writeln!(out, "|---|--:|--:|--:|--:|--:|")?;
+    writeln!(out, "|---|--:|--:|--:|--:|--:|--:|")?;
     let mut proved = Vec::new();
     for scenario in &scenarios {
         let row = time_scenario(scenario, options.effort).map_err(io::Error::other)?;
         writeln!(
             out,
-            "| {} | {} | {} | {:.2} | {} | {} |",
+            "| {} | {} | {} | {:.2} | {} | {} | {} |",
             scenario.name,
             scaled(row.calls / row.proved),
             scaled(row.calls / row.tuned),
             row.to_tuned,
+            or_none(row.to_words.map(|ratio| format!("{ratio:.2}"))),
             row.bytes_per_second(),
-            row.to_plain
-                .map_or("-".to_owned(), |ratio| format!("{ratio:.1}")),
+            or_none(row.to_plain.map(|ratio| format!("{ratio:.1}"))),
         )?;
         out.flush()?;
         proved.push((scenario.name, row));
@@ -163,12 +182,19 @@ fn run(options: &Options, out: &mut impl Write) -> io::Result<()> {
         out,
         "\nThe media are memory, on both sides. The plain copy is the plain work on the bytes that the calls move: a copy of \
          those between caller and store and of the pages written to the media, a fill of those that a trim clears, and a \
-         scan (an OR over the bytes) of those that a mount or a format has to look at. bytes/s counts all these. \
+         scan (an OR over the bytes) of those that a mount or a format has to look at; of a trip list a scan where it is \
+         read, and a copy of what is written. bytes/s counts all these. Tuned goes through a trip list byte by byte, by words \
+         takes eight bytes at a time. \
          Medians of {} rounds of {} ms; a ratio is the median of those of the rounds.\n",
         options.effort.rounds,
         options.effort.round.as_millis(),
     )?;
     table_of_others(&proved, &mut others, options.effort, out)
+}
+
+/// A cell of the table that not every scenario has.
+fn or_none(cell: Option<String>) -> String {
+    cell.unwrap_or("-".to_owned())
 }
 
 /// A number with three digits.
@@ -187,12 +213,12 @@ fn scaled(number: f64) -> String {
     format!("{number:.digits$}{unit}")
 }
 
-/// The comparison of both sides, step by step.
-fn check(scenario: &Scenario) -> Result<(), String> {
-    let (mut one, mut two) = (scenario.ready::<Proved>(), scenario.ready::<Tuned>());
+/// The comparison of the proved side with another, step by step.
+fn check<S: Calls>(scenario: &Scenario, name: &str) -> Result<(), String> {
+    let (mut one, mut two) = (scenario.ready::<Proved>(), scenario.ready::<S>());
     for pass in 1..=2 {
         for (index, &step) in scenario.steps.iter().enumerate() {
-            let answers = (one.step::<Proved>(step), two.step::<Tuned>(step));
+            let answers = (one.step::<Proved>(step), two.step::<S>(step));
             let what = if same_answer(step, answers.0, answers.1) {
                 different(&one, &two)
             } else {
@@ -200,7 +226,7 @@ fn check(scenario: &Scenario) -> Result<(), String> {
             };
             if let Some(what) = what {
                 return Err(format!(
-                    "{}: pass {pass}, step {index}, {step:?}: the {what} differ ({answers:x?})",
+                    "{}: pass {pass}, step {index}, {step:?}: the {what} of proved and {name} differ ({answers:x?})",
                     scenario.name
                 ));
             }
@@ -227,16 +253,15 @@ struct Row {
     tuned: f64,
     /// Proved over tuned.
     to_tuned: f64,
+    /// Proved over trip lists by words, on trip lists.
+    to_words: Option<f64>,
     /// Proved over the plain work, where there is some.
     to_plain: Option<f64>,
 }
 
 impl Row {
     fn bytes_per_second(&self) -> String {
-        if self.bytes == 0.0 {
-            return "-".to_owned();
-        }
-        scaled(self.bytes / self.proved)
+        or_none((self.bytes > 0.0).then(|| scaled(self.bytes / self.proved)))
     }
 }
 
@@ -244,21 +269,30 @@ fn time_scenario(scenario: &Scenario, effort: Effort) -> Result<Row, String> {
     let work = work(scenario);
     let mut proved = scenario.ready::<Proved>();
     let mut tuned = scenario.ready::<Tuned>();
+    let mut by_words = scenario.ready::<ByWords>();
     let from = vec![1; FILE_BYTES];
     let mut to = vec![0; FILE_BYTES];
-    let times = measure(
-        &mut [
-            side::<Proved>(&mut proved, scenario),
-            side::<Tuned>(&mut tuned, scenario),
-            Box::new(|passes| plain_work(&work, &from, &mut to, passes)),
-        ],
-        effort,
-    );
-    if let Some(what) = different(&proved, &tuned) {
-        return Err(format!(
-            "{}: after the rounds the {what} differ",
-            scenario.name
-        ));
+    let mut sides = vec![
+        side::<Proved>(&mut proved, scenario),
+        side::<Tuned>(&mut tuned, scenario),
+        Box::new(|passes| plain_work(&work, &from, &mut to, passes)),
+    ];
+    if scenario.is_on_lists() {
+        sides.push(side::<ByWords>(&mut by_words, scenario));
+    }
+    let times = measure(&mut sides, effort);
+    drop(sides);
+    let mut others = vec![(TUNED, &tuned)];
+    if scenario.is_on_lists() {
+        others.push((BY_WORDS, &by_words));
+    }
+    for (name, other) in others {
+        if let Some(what) = different(&proved, other) {
+            return Err(format!(
+                "{}: after the rounds the {what} of proved and {name} differ",
+                scenario.name
+            ));
+        }
     }
     let bytes: usize = work.iter().map(|work| work.bytes()).sum();
     Ok(Row {
@@ -267,11 +301,12 @@ fn time_scenario(scenario: &Scenario, effort: Effort) -> Result<Row, String> {
         proved: median(&times[0]),
         tuned: median(&times[1]),
         to_tuned: ratio(&times[0], &times[1]),
+        to_words: times.get(3).map(|by_words| ratio(&times[0], by_words)),
         to_plain: (bytes > 0).then(|| ratio(&times[0], &times[2])),
     })
 }
 
-fn side<'a, S: Store>(run: &'a mut Run, scenario: &'a Scenario) -> Side<'a> {
+fn side<'a, S: Calls>(run: &'a mut Run, scenario: &'a Scenario) -> Side<'a> {
     Box::new(|passes| run.passes::<S>(&scenario.steps, passes))
 }
 

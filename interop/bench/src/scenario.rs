@@ -3,10 +3,19 @@
 use std::hint::black_box;
 
 use layout::{
-    floor_at, size, slot_at, FILES, FILE_BYTES, MOUNT_WRITES, PAGE_BYTES, SLOTS, SYNC_WRITES,
+    floor_at, size, slot_at, FILES, FILE_BYTES, LIST_BYTES, MOUNT_WRITES, PAGE_BYTES, SLOTS,
+    SYNC_WRITES, TRIP_NUMBERS,
 };
 use random_calls::{MemoryVec, Store};
+use random_lists::TripLists;
 use random_sessions::rng::Rng;
+
+use crate::lists::{lists, Spelling};
+
+/// All calls of `boxstore.h`.
+pub trait Calls: Store + TripLists {}
+
+impl<S: Store + TripLists> Calls for S {}
 
 /// One step of a scenario.
 #[derive(Clone, Copy, Debug)]
@@ -61,6 +70,23 @@ pub enum Step {
         /// Position of the first byte.
         position: usize,
     },
+    /// Read the last trip of a list.
+    ReadTrip {
+        /// Which list.
+        list: usize,
+        /// Its last place.
+        place: usize,
+    },
+    /// Go through a list by the cursor, and add up the numbers of all trips.
+    WalkTrips {
+        /// Which list.
+        list: usize,
+    },
+    /// Write a list in its one spelling, into the buffer.
+    WriteTrips {
+        /// Which list.
+        list: usize,
+    },
     /// No call: puts two pages past the stored size of file 3, as a sync that
     /// was cut leaves them. 512 bytes are copied, on both sides alike.
     LeaveTail,
@@ -74,18 +100,30 @@ pub struct Scenario {
     pub steps: Vec<Step>,
     /// Steps that make the device ready.
     prepare: Vec<Step>,
+    /// The trip lists that there are.
+    lists: Vec<Vec<u8>>,
 }
 
 impl Scenario {
     /// The calls of one pass.
     pub fn calls(&self) -> usize {
-        let no_call = |step: &&Step| matches!(step, Step::LeaveTail);
-        self.steps.len() - self.steps.iter().filter(no_call).count()
+        let calls = |&step: &Step| match step {
+            Step::LeaveTail => 0,
+            // one more finds the end
+            Step::WalkTrips { list } => trips(&self.lists[list]) + 1,
+            _ => 1,
+        };
+        self.steps.iter().map(calls).sum()
+    }
+
+    /// Whether it is one of trip lists.
+    pub fn is_on_lists(&self) -> bool {
+        !self.lists.is_empty()
     }
 
     /// A device that is ready for the steps.
-    pub fn ready<S: Store>(&self) -> Run {
-        let mut run = Run::new();
+    pub fn ready<S: Calls>(&self) -> Run {
+        let mut run = Run::new(&self.lists);
         for &step in &self.prepare {
             run.step::<S>(step);
         }
@@ -93,31 +131,42 @@ impl Scenario {
     }
 }
 
+/// The number of trips of a list.
+fn trips(list: &[u8]) -> usize {
+    list.iter().filter(|&&byte| byte == b'\n').count()
+}
+
 /// A device, with the buffers of the caller.
 #[derive(Clone)]
 pub struct Run {
     /// The memory of the store.
     pub memory: MemoryVec,
-    /// Takes what is read.
+    /// Takes what is read, and the spelling of a trip list.
     pub buffer: Vec<u8>,
+    /// The trip that was read last.
+    trip: [u32; TRIP_NUMBERS],
     /// What is written.
     source: Vec<u8>,
+    /// Trip lists.
+    lists: Vec<Vec<u8>>,
 }
 
 impl Run {
-    fn new() -> Run {
+    fn new(lists: &[Vec<u8>]) -> Run {
         let mut rng = Rng::new(2);
         Run {
             memory: MemoryVec::new(),
             buffer: vec![0; FILE_BYTES],
             // No byte is 0, so that a page which is lost shows.
             source: (0..FILE_BYTES).map(|_| rng.between(1, 255) as u8).collect(),
+            trip: [0; TRIP_NUMBERS],
+            lists: lists.to_vec(),
         }
     }
 
-    /// Carries out one step and answers its word.
+    /// Carries out one step and answers its word, or the sum of a walk.
     #[inline(always)]
-    pub fn step<S: Store>(&mut self, step: Step) -> u64 {
+    pub fn step<S: Calls>(&mut self, step: Step) -> u64 {
         let memory = &mut self.memory;
         match step {
             Step::Format => S::format(memory.lend_mut(), MOUNT_WRITES).into(),
@@ -144,6 +193,13 @@ impl Run {
             Step::LookCount { file, position } => {
                 S::look_count(memory.lend(), file, position).into()
             }
+            Step::ReadTrip { list, place } => {
+                S::read_trip(&self.lists[list], place, &mut self.trip).into()
+            }
+            Step::WalkTrips { list } => walk::<S>(&self.lists[list], &mut self.trip),
+            Step::WriteTrips { list } => {
+                S::write_trips(&self.lists[list], &mut self.buffer[..LIST_BYTES]).into()
+            }
             Step::LeaveTail => {
                 let at =
                     3 * FILE_BYTES + PAGE_BYTES * (memory.sizes[3] as usize).div_ceil(PAGE_BYTES);
@@ -155,7 +211,7 @@ impl Run {
 
     /// Carries out all steps, several times.
     #[inline(never)]
-    pub fn passes<S: Store>(&mut self, steps: &[Step], passes: usize) {
+    pub fn passes<S: Calls>(&mut self, steps: &[Step], passes: usize) {
         for _ in 0..passes {
             for &step in steps {
                 black_box(self.step::<S>(step));
@@ -163,6 +219,7 @@ impl Run {
         }
         black_box(&mut self.memory);
         black_box(&mut self.buffer);
+        black_box(&mut self.trip);
     }
 
     /// The plain work of a step, at the least:
@@ -174,18 +231,25 @@ impl Run {
     ///   the first that is not 0, and a fill for each trim;
     /// - format: such a scan of the files whose stored size is 0, and a fill
     ///   for each trim;
-    /// - truncate, look and look count: none.
+    /// - truncate, look and look count: none;
+    /// - read and walk of a trip list: a scan of it;
+    /// - write of a trip list: a copy of what is written.
     ///
     /// The bytes that fill a page when it becomes cached, and the cache state,
     /// are not counted.
-    pub fn work<S: Store>(&mut self, step: Step) -> Vec<Work> {
+    pub fn work<S: Calls>(&mut self, step: Step) -> Vec<Work> {
         let before = self.memory.clone();
         let answer = self.step::<S>(step);
         let (number, count) = (answer >> 16, (answer & 65_535) as usize);
         let mut work = Vec::new();
         match step {
-            Step::Read { .. } | Step::Write { .. } if number == 0 && count > 0 => {
+            Step::Read { .. } | Step::Write { .. } | Step::WriteTrips { .. }
+                if number == 0 && count > 0 =>
+            {
                 work.push(Work::Copy(count));
+            }
+            Step::ReadTrip { list, .. } | Step::WalkTrips { list } => {
+                work.push(Work::Scan(self.lists[list].len()));
             }
             Step::Sync { file, .. } if number == 0 || number == 9 => {
                 let floor = size(&before.state, floor_at(file));
@@ -224,6 +288,24 @@ impl Run {
     }
 }
 
+/// Goes through a list as `boxstore.h` says. Answers the sum of the numbers of
+/// all trips.
+#[inline(always)]
+fn walk<S: TripLists>(list: &[u8], trip: &mut [u32; TRIP_NUMBERS]) -> u64 {
+    let mut sum = 0;
+    let mut at = 0;
+    let mut least = 0;
+    loop {
+        match S::next_trip(list, at, least, trip) {
+            0 => return sum,
+            refused @ 65_536.. => return refused.into(),
+            next => at = next as usize,
+        }
+        least = trip[0] as usize + 1;
+        sum += trip.iter().map(|&number| u64::from(number)).sum::<u64>();
+    }
+}
+
 /// A scan of bytes up to the first that is not 0.
 fn scan(bytes: &[u8]) -> Work {
     let first = bytes.iter().position(|&byte| byte != 0);
@@ -255,6 +337,9 @@ impl Work {
 pub fn different(one: &Run, two: &Run) -> Option<String> {
     if one.buffer != two.buffer {
         return Some("buffers of reads".to_owned());
+    }
+    if one.trip != two.trip {
+        return Some("trips".to_owned());
     }
     one.memory.difference(&two.memory, true)
 }
@@ -291,53 +376,88 @@ fn started(steps: &[Step]) -> Vec<Step> {
 
 /// All scenarios, in the order of the table.
 pub fn all() -> Vec<Scenario> {
+    let (plain, zeros) = (lists(Spelling::Plain), lists(Spelling::Zeros));
     vec![
-        Scenario {
-            name: "serial: write 12 bytes, sync",
-            prepare: started(&[]),
-            steps: [write(0, 0, 12), sync(0)].repeat(16),
-        },
-        Scenario {
-            name: "odometer: append 8 bytes, sync each eighth",
-            prepare: started(&[]),
-            steps: odometer(),
-        },
-        Scenario {
-            name: "fill: write 16 pages, sync",
-            prepare: started(&[]),
-            steps: fill(),
-        },
-        Scenario {
-            name: "read 4,096 bytes, none cached",
-            prepare: started(&[write(1, 0, FILE_BYTES), sync(1)]),
-            steps: vec![read(1, 0, FILE_BYTES); 16],
-        },
-        Scenario {
-            name: "read 4,096 bytes, all cached",
-            prepare: started(&[write(1, 0, FILE_BYTES)]),
-            steps: vec![read(1, 0, FILE_BYTES); 16],
-        },
-        Scenario {
-            name: "mount after a cut",
-            prepare: mount_prepare(),
-            steps: [Step::LeaveTail, Step::Mount].repeat(4),
-        },
-        Scenario {
-            name: "mixed session",
-            prepare: Vec::new(),
-            steps: mixed(),
-        },
-        Scenario {
-            name: "empty read, no page cached",
-            prepare: started(&[]),
-            steps: vec![read(1, 0, 0); 16],
-        },
-        Scenario {
-            name: "empty read, 24 pages cached",
-            prepare: started(&[write(1, 0, FILE_BYTES), write(2, 0, FILE_BYTES)]),
-            steps: vec![read(1, 0, 0); 16],
-        },
+        on_files(
+            "serial: write 12 bytes, sync",
+            started(&[]),
+            [write(0, 0, 12), sync(0)].repeat(16),
+        ),
+        on_files(
+            "odometer: append 8 bytes, sync each eighth",
+            started(&[]),
+            odometer(),
+        ),
+        on_files("fill: write 16 pages, sync", started(&[]), fill()),
+        on_files(
+            "read 4,096 bytes, none cached",
+            started(&[write(1, 0, FILE_BYTES), sync(1)]),
+            vec![read(1, 0, FILE_BYTES); 16],
+        ),
+        on_files(
+            "read 4,096 bytes, all cached",
+            started(&[write(1, 0, FILE_BYTES)]),
+            vec![read(1, 0, FILE_BYTES); 16],
+        ),
+        on_files(
+            "mount after a cut",
+            mount_prepare(),
+            [Step::LeaveTail, Step::Mount].repeat(4),
+        ),
+        on_files("mixed session", Vec::new(), mixed()),
+        on_files(
+            "empty read, no page cached",
+            started(&[]),
+            vec![read(1, 0, 0); 16],
+        ),
+        on_files(
+            "empty read, 24 pages cached",
+            started(&[write(1, 0, FILE_BYTES), write(2, 0, FILE_BYTES)]),
+            vec![read(1, 0, 0); 16],
+        ),
+        on_lists(
+            "trip list: read the last of its trips",
+            &plain,
+            |list, trips| Step::ReadTrip {
+                list,
+                place: trips - 1,
+            },
+        ),
+        on_lists("trip list: walk through its trips", &plain, |list, _| {
+            Step::WalkTrips { list }
+        }),
+        on_lists("trip list: write, spelled so already", &plain, |list, _| {
+            Step::WriteTrips { list }
+        }),
+        on_lists(
+            "trip list: write, zeros before each number",
+            &zeros,
+            |list, _| Step::WriteTrips { list },
+        ),
     ]
+}
+
+/// A scenario on the files of a device.
+fn on_files(name: &'static str, prepare: Vec<Step>, steps: Vec<Step>) -> Scenario {
+    Scenario {
+        name,
+        prepare,
+        steps,
+        lists: Vec::new(),
+    }
+}
+
+/// A scenario with one step for each list and the number of its trips.
+fn on_lists(name: &'static str, lists: &[Vec<u8>], step: fn(usize, usize) -> Step) -> Scenario {
+    let steps = lists.iter().enumerate();
+    Scenario {
+        name,
+        prepare: Vec::new(),
+        steps: steps
+            .map(|(index, list)| step(index, trips(list)))
+            .collect(),
+        lists: lists.to_vec(),
+    }
 }
 
 /// Appends until file 1 is full, then begins anew.
@@ -413,6 +533,7 @@ mod tests {
     use random_calls::Reference;
 
     use super::*;
+    use crate::lists::LISTS;
 
     fn work(name: &str) -> Vec<Work> {
         let scenarios = all();
@@ -451,8 +572,15 @@ mod tests {
         mount.insert(4, Fill(2_596));
         assert_eq!(work("mount"), mount.repeat(4));
 
+        assert_eq!(work("trip list: read"), [Scan(4_096); LISTS]);
+        assert_eq!(work("trip list: walk"), [Scan(4_096); LISTS]);
+        assert_eq!(work("trip list: write, spelled"), [Copy(4_096); LISTS]);
+        let zeros = work("trip list: write, zeros");
+        assert_eq!(zeros.len(), LISTS);
+        assert!(zeros.iter().all(|&work| work != Copy(4_096)));
+
         // a file with bytes, and seven without
-        let mut run = Run::new();
+        let mut run = Run::new(&[]);
         for step in started(&[write(2, 0, 1), sync(2)]) {
             run.step::<Reference>(step);
         }
@@ -495,13 +623,42 @@ mod tests {
     }
 
     #[test]
+    fn steps_on_trip_lists() {
+        let list = b"5,1200,ANNA\n017,0,B7\n";
+        let mut run = Run::new(&[list.to_vec()]);
+        let mut step = |step| (run.step::<Reference>(step), run.trip);
+        let last = [17, 0, 18, 2];
+        let sum = 5 + 1_200 + 7 + 4 + 17 + 18 + 2;
+        assert_eq!(step(Step::WalkTrips { list: 0 }), (sum, last));
+        assert_eq!(
+            step(Step::ReadTrip { list: 0, place: 0 }),
+            (2, [5, 1_200, 7, 4])
+        );
+        assert_eq!(step(Step::ReadTrip { list: 0, place: 1 }), (2, last));
+        assert_eq!(step(Step::WriteTrips { list: 0 }), (20, last));
+        assert_eq!(run.buffer[..21], *b"5,1200,ANNA\n17,0,B7\n\0");
+
+        run.lists[0][13] = b'x';
+        assert_eq!(run.step::<Reference>(Step::WalkTrips { list: 0 }), 10 << 16);
+
+        let scenarios = all();
+        let walk = scenarios
+            .iter()
+            .find(|scenario| scenario.name.contains("walk"));
+        let walk = walk.expect("there is one");
+        let trips: usize = walk.lists.iter().map(|list| trips(list)).sum();
+        assert_eq!(walk.calls(), trips + walk.lists.len());
+    }
+
+    #[test]
     fn differences_are_seen() {
         let scenarios = all();
         let mut one = scenarios[4].ready::<Reference>();
         assert_eq!(different(&one, &one.clone()), None);
         type Alter = fn(&mut Run);
-        let alter: [(Alter, &str); 5] = [
+        let alter: [(Alter, &str); 6] = [
             (|run| run.buffer[9] ^= 1, "buffers of reads"),
+            (|run| run.trip[1] ^= 1, "trips"),
             (|run| run.memory.media[9] ^= 1, "media"),
             (|run| run.memory.sizes[1] ^= 1, "stored sizes"),
             (|run| run.memory.state[STATE_LOGICAL] ^= 1, "cache states"),

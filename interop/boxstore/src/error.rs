@@ -3,7 +3,8 @@
 use core::fmt;
 
 /// Why a call was refused. All but [`Error::Cut`] leave everything as it was.
-/// [`Device`](crate::Device) gives SHAPE from `from_media` alone, and BOOKS never.
+/// [`Device`](crate::Device) gives SHAPE from `from_media` alone, and BOOKS never;
+/// the calls on trip lists give RANGE and the last two.
 ///
 /// `Display` and `Debug` print the same words, so that a `main` which returns
 /// an error tells what it means.
@@ -21,7 +22,8 @@ pub enum Error {
     /// NO FILE (6): the file number is above 7.
     NoFile,
     /// RANGE (7): a position, a size, or the end of a write is above its limit:
-    /// 4,096, or what the call of [`raw`](crate::raw) says.
+    /// 4,096, or what the call of [`raw`](crate::raw) says. The size may be that
+    /// of a trip list.
     Range,
     /// NO ROOM (8): the first page of a write is not cached, while 24 others
     /// are. Sync a file first.
@@ -32,10 +34,16 @@ pub enum Error {
         /// The media writes that were done, as many as the budget.
         done: usize,
     },
+    /// TRIP FORM (10): a line of the trip list lacks the form
+    /// `minute,metres,driver`.
+    TripForm,
+    /// TRIP ORDER (11): the minute of a trip is not above that of the line
+    /// before.
+    TripOrder,
 }
 
 impl Error {
-    /// The number of the refusal, 2 to 9.
+    /// The number of the refusal, 2 to 11.
     pub fn number(self) -> u32 {
         match self {
             Error::Shape => 2,
@@ -46,6 +54,8 @@ impl Error {
             Error::Range => 7,
             Error::NoRoom => 8,
             Error::Cut { .. } => 9,
+            Error::TripForm => 10,
+            Error::TripOrder => 11,
         }
     }
 
@@ -55,7 +65,7 @@ impl Error {
     ///
     /// # Panics
     ///
-    /// Where the number is none of 0 and 2 to 9. No call gives such an answer.
+    /// Where the number is none of 0 and 2 to 11. No call gives such an answer.
     pub fn decode(answer: u32) -> Result<usize, Error> {
         let count = (answer & 65_535) as usize;
         Err(match answer >> 16 {
@@ -68,6 +78,8 @@ impl Error {
             7 => Error::Range,
             8 => Error::NoRoom,
             9 => Error::Cut { done: count },
+            10 => Error::TripForm,
+            11 => Error::TripOrder,
             number => panic!("no answer of the store has the number {number}"),
         })
     }
@@ -97,6 +109,14 @@ impl fmt::Display for Error {
                 "CUT (9): the budget paid for {done} media write{}, and more were needed; the device is down",
                 if *done == 1 { "" } else { "s" }
             ),
+            Error::TripForm => write!(
+                f,
+                "TRIP FORM (10): a line of the trip list lacks the form minute,metres,driver"
+            ),
+            Error::TripOrder => write!(
+                f,
+                "TRIP ORDER (11): the minute of a trip is not above that of the line before"
+            ),
         }
     }
 }
@@ -116,7 +136,7 @@ mod tests {
     use std::format;
     use std::string::ToString;
 
-    const ALL: [(Error, &str); 10] = [
+    const ALL: [(Error, &str); 12] = [
         (
             Error::Shape,
             "SHAPE (2): lent memory has another length than the call needs",
@@ -144,6 +164,14 @@ mod tests {
         (
             Error::Cut { done: 17 },
             "CUT (9): the budget paid for 17 media writes, and more were needed; the device is down",
+        ),
+        (
+            Error::TripForm,
+            "TRIP FORM (10): a line of the trip list lacks the form minute,metres,driver",
+        ),
+        (
+            Error::TripOrder,
+            "TRIP ORDER (11): the minute of a trip is not above that of the line before",
         ),
     ];
 
@@ -181,7 +209,7 @@ mod tests {
 
     #[test]
     fn answers_that_no_call_gives() {
-        for number in [1, 10, 65_535] {
+        for number in [1, 12, 65_535] {
             let caught = std::panic::catch_unwind(|| Error::decode(65_536 * number));
             assert!(caught.is_err(), "{number}");
         }

@@ -42,6 +42,15 @@
 //! [`Error::Cut`]: the device is then down, as if the power had gone at that
 //! moment. [`SYNC_WRITES`] and [`MOUNT_WRITES`] are never cut.
 //!
+//! # Trip lists
+//!
+//! A trip list is text, at most [`LIST_BYTES`] of it, as a file of the store may
+//! hold: for each trip a line `minute,metres,driver` that ends with LF. A number
+//! has 1 to 10 digits, leading zeros allowed, and fits a `u32`; a driver is 1 to
+//! 16 of A to Z and 0 to 9; the minutes rise from line to line. [`trips`] goes
+//! through a list, [`read_trip`] takes one trip of it, and [`write_trips`] gives
+//! it the spelling that all lists of the same trips share.
+//!
 //! # Without `std`
 //!
 //! The feature `std`, on by default, adds `Device::read_all` and no more.
@@ -68,12 +77,14 @@ extern crate std;
 mod device;
 mod error;
 pub mod raw;
+mod trips;
 
 pub use device::Device;
 pub use error::Error;
+pub use trips::{read_trip, trips, write_trips, Trip, Trips};
 
 #[doc(inline)]
 pub use layout::{
-    FILES, FILE_BYTES, FRAMES_BYTES, MEDIA_BYTES, MOUNT_WRITES, PAGE_BYTES, SLOTS, STATE_BYTES,
-    STATE_FLOOR, STATE_LOGICAL, STATE_MOUNTED, STATE_SLOTS, SYNC_WRITES,
+    FILES, FILE_BYTES, FRAMES_BYTES, LIST_BYTES, MEDIA_BYTES, MOUNT_WRITES, PAGE_BYTES, SLOTS,
+    STATE_BYTES, STATE_FLOOR, STATE_LOGICAL, STATE_MOUNTED, STATE_SLOTS, SYNC_WRITES,
 };

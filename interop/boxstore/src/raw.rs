@@ -122,6 +122,20 @@ calls! {
     /// `boxstore_trim`: the media write that clears a file from `n` on and stores
     /// `n` as its size, by itself.
     fn trim(media: &mut [u8], sizes: &mut [u32], file: usize, n: usize) -> u32 = boxstore_trim;
+
+    /// `boxstore_read_trip`: puts down the trip at a place of a trip list as four
+    /// numbers, and counts the trips of the list.
+    fn read_trip(list: &[u8], place: usize, trip: &mut [u32]) -> u32 = boxstore_read_trip;
+
+    /// `boxstore_next_trip`: puts down the trip of the line at an index of a trip
+    /// list, whose minute is to be at least `least`. The count is the index after
+    /// the line, or 0 at the end of the list.
+    fn next_trip(list: &[u8], at: usize, least: usize, trip: &mut [u32]) -> u32
+        = boxstore_next_trip;
+
+    /// `boxstore_write_trips`: writes a trip list in its one spelling into the
+    /// front of the buffer, and counts the bytes.
+    fn write_trips(list: &[u8], buffer: &mut [u8]) -> u32 = boxstore_write_trips;
 }
 
 /// The part that a look names, of the media and the frames that it was given.

@@ -58,6 +58,7 @@ fn the_constants() {
         ("MEDIA_BYTES", boxstore::MEDIA_BYTES),
         ("FRAMES_BYTES", boxstore::FRAMES_BYTES),
         ("STATE_BYTES", boxstore::STATE_BYTES),
+        ("LIST_BYTES", boxstore::LIST_BYTES),
         ("STATE_MOUNTED", boxstore::STATE_MOUNTED),
         ("STATE_SLOTS", boxstore::STATE_SLOTS),
         ("STATE_LOGICAL", boxstore::STATE_LOGICAL),
@@ -72,8 +73,8 @@ fn the_constants() {
 #[test]
 fn the_answers() {
     let (numbers, names, meanings) = (numbers(), texts("boxstore_name"), texts("boxstore_meaning"));
-    assert_eq!(numbers.len(), 9);
-    assert_eq!((names.len(), meanings.len()), (9, 9));
+    assert_eq!(numbers.len(), 11);
+    assert_eq!((names.len(), meanings.len()), (11, 11));
     assert_eq!(numbers[0], ("DONE", 0));
     assert_eq!((names[0].0, meanings[0].0), ("DONE", "DONE"));
     for (i, &(answer, number)) in numbers.iter().enumerate().skip(1) {

@@ -1,5 +1,10 @@
-//! The calls over memory of the caller's own: what a device cannot ask for.
+//! The calls over memory of the caller's own: what a device cannot ask for, and
+//! trip lists.
 
+#[path = "../../tuned/tests/worked_trips/mod.rs"]
+mod worked_trips;
+
+use boxstore::raw as calls;
 use boxstore::{
     raw, Error, FILES, FILE_BYTES, MEDIA_BYTES, MOUNT_WRITES, STATE_BYTES, SYNC_WRITES,
 };
@@ -232,4 +237,7 @@ fn empty_slices_everywhere() {
     );
     assert_eq!(Error::decode(raw::write_page(&mut [], &[])), SHAPE);
     assert_eq!(Error::decode(raw::truncate_sizes(&mut [], 0, 0)), SHAPE);
+    assert_eq!(Error::decode(raw::read_trip(&[], 0, &mut [])), SHAPE);
+    assert_eq!(Error::decode(raw::next_trip(&[], 0, 0, &mut [])), SHAPE);
+    assert_eq!(Error::decode(raw::write_trips(&[], &mut [])), SHAPE);
 }

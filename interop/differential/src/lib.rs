@@ -1,6 +1,7 @@
 //! The archive beside the reference: single calls on arbitrary memory, which
-//! `random_calls` makes, and whole histories with lost power, which this crate
-//! makes and judges by model files as well.
+//! `random_calls` makes, calls on trip lists, which `random_lists` makes, and
+//! whole histories with lost power, which this crate makes and judges by model
+//! files as well.
 
 mod check;
 mod history;
@@ -17,3 +18,5 @@ random_calls::store_of!(
     Archive,
     boxstore::raw
 );
+
+random_lists::trip_lists_by!(Archive, boxstore::raw);

@@ -5,7 +5,8 @@ use std::io::{self, Write};
 use std::process::ExitCode;
 
 use differential::{check, Archive};
-use random_calls::{compare, Reference};
+use random_calls::{compare as compare_calls, Reference};
+use random_lists::compare as compare_lists;
 use random_sessions::command_line::{self, compare_on, Options, Seeds};
 
 const HELP: &str = "\
@@ -13,9 +14,9 @@ differential - compares the archive of the proved store with the reference
 
   differential calls --calls N --seed S [--seed S ...] [--fresh]
       Makes at least N calls in all, spread over the seeds, on arbitrary memory:
-      any lengths, states and numbers, every call of boxstore.h. Compares the
-      answers and all memory after each call, and checks that each call gave
-      each answer that it can give.
+      any lengths, states and numbers, every call of boxstore.h on a store.
+      Compares the answers and all memory after each call, and checks that each
+      call gave each answer that it can give.
 
   differential histories --histories N --seed S [--seed S ...] [--fresh]
       Makes at least N histories in all, spread over the seeds: reads, looks,
@@ -24,17 +25,24 @@ differential - compares the archive of the proved store with the reference
       and mounts. Compares as above, and holds reads, sizes, media after a sync
       and what each mount finds against model files.
 
+  differential lists --lists N --seed S [--seed S ...] [--fresh]
+      Makes at least N trip lists in all, spread over the seeds: ones that keep
+      all rules, ones with a fault or two, and random bytes. Compares the calls
+      on trip lists as above, and holds the archive's against each other: what is
+      written is taken again and written as it stands, is no longer and has the
+      same trips, and the cursor gives the trips that are read place by place.
+
   differential --help
       Prints this text.
 
   --fresh adds a seed that is new each time, and prints it.
 
 A seed is a number from 0 to 18446744073709551615. The same seed gives the same
-calls and histories. At the first difference it prints the simplest form that it
-can find.
+calls, histories and lists. At the first difference it prints the simplest form
+that it can find.
 
-Exit status: 0 no difference, 1 a difference, or too few calls or histories for
-all that must come up (or an error of output), 2 wrong arguments.
+Exit status: 0 no difference, 1 a difference, or too few calls, histories or
+lists for all that must come up (or an error of output), 2 wrong arguments.
 ";
 
 /// What is compared.
@@ -42,6 +50,7 @@ all that must come up (or an error of output), 2 wrong arguments.
 enum Kind {
     Calls,
     Histories,
+    Lists,
 }
 
 /// What the arguments ask for.
@@ -62,6 +71,7 @@ fn parse(arguments: &[String]) -> Result<Task, String> {
     let (kind, amount_option) = match command {
         "calls" => (Kind::Calls, "--calls"),
         "histories" => (Kind::Histories, "--histories"),
+        "lists" => (Kind::Lists, "--lists"),
         _ => return Err(format!("unknown command '{command}'")),
     };
     let options = Options::read(rest, amount_option, true, |_, _| Ok(false))?;
@@ -122,6 +132,26 @@ impl Counts for differential::Tally {
     }
 }
 
+impl Counts for random_lists::Tally {
+    fn add(&mut self, other: &Self) {
+        self.add(other);
+    }
+
+    fn line(&self) -> String {
+        format!(
+            "{} lists, {} calls ({} lists of {} trips accepted)",
+            self.lists,
+            self.calls(),
+            self.accepted,
+            self.trips
+        )
+    }
+
+    fn missing(&self) -> Vec<String> {
+        self.missing()
+    }
+}
+
 /// Compares on all seeds; true if there is no difference and all came up.
 fn run<C: Counts, E: Display>(
     amount: usize,
@@ -158,8 +188,19 @@ fn perform(task: Task) -> io::Result<bool> {
         } => {
             let seeds = seeds.all(&mut out)?;
             match kind {
-                Kind::Calls => run(amount, &seeds, compare::<Reference, Archive>, &mut out),
+                Kind::Calls => run(
+                    amount,
+                    &seeds,
+                    compare_calls::<Reference, Archive>,
+                    &mut out,
+                ),
                 Kind::Histories => run(amount, &seeds, check::<Reference, Archive>, &mut out),
+                Kind::Lists => run(
+                    amount,
+                    &seeds,
+                    compare_lists::<Reference, Archive>,
+                    &mut out,
+                ),
             }
         }
     }
@@ -205,6 +246,17 @@ mod tests {
                 },
             })
         );
+        assert_eq!(
+            parse_line("lists --lists 5 --seed 0"),
+            Ok(Task::Compare {
+                kind: Kind::Lists,
+                amount: 5,
+                seeds: Seeds {
+                    given: vec![0],
+                    fresh: false,
+                },
+            })
+        );
         for wrong in [
             "other",
             "calls",
@@ -219,6 +271,8 @@ mod tests {
             "calls --calls 10 --seed 1 more",
             "histories --calls 10 --seed 1",
             "histories --histories 10",
+            "lists --calls 10 --seed 1",
+            "lists --lists 10",
         ] {
             assert!(parse_line(wrong).is_err(), "{wrong}");
         }
@@ -227,7 +281,8 @@ mod tests {
     #[test]
     fn a_line_for_each_seed_and_a_total() {
         let mut out = Vec::new();
-        let equal = run(30_000, &[3, 4], compare::<Reference, Reference>, &mut out);
+        let compare = compare_calls::<Reference, Reference>;
+        let equal = run(30_000, &[3, 4], compare, &mut out);
         assert!(equal.unwrap());
         let text = String::from_utf8(out).unwrap();
         let lines: Vec<&str> = text.lines().collect();
@@ -235,6 +290,19 @@ mod tests {
         assert!(lines[0].starts_with("seed 3: 15000 calls (states sound "));
         assert!(lines[1].starts_with("seed 4: 15000 calls "));
         assert!(lines[2].starts_with("total: 30000 calls "));
+
+        let mut out = Vec::new();
+        let compare = compare_lists::<Reference, Reference>;
+        assert!(run(2_000, &[3, 4], compare, &mut out).unwrap());
+        let text = String::from_utf8(out).unwrap();
+        assert!(
+            text.starts_with("seed 3: 1000 lists, 8000 calls ("),
+            "{text}"
+        );
+        assert!(
+            text.contains("\ntotal: 2000 lists, 16000 calls ("),
+            "{text}"
+        );
     }
 
     #[test]

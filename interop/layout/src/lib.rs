@@ -19,6 +19,12 @@ pub const MEDIA_BYTES: usize = FILES * FILE_BYTES;
 /// Bytes of the frames, which hold the cached pages.
 pub const FRAMES_BYTES: usize = SLOTS * PAGE_BYTES;
 
+/// Greatest length of a trip list.
+pub const LIST_BYTES: usize = 4096;
+/// Numbers that a trip is told as: its minute, its metres, the index in the list
+/// where its driver begins, and the length of that.
+pub const TRIP_NUMBERS: usize = 4;
+
 /// The most media writes that a sync needs, a trim, the pages and a size: a
 /// budget that is never cut.
 pub const SYNC_WRITES: usize = PAGES + 2;

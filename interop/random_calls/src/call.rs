@@ -5,7 +5,7 @@ use std::fmt;
 use layout::{FILES, FILE_BYTES, MOUNT_WRITES, PAGES, PAGE_BYTES, SYNC_WRITES};
 use random_sessions::rng::Rng;
 
-use crate::guarded::{Element, Guarded};
+use crate::guarded::guarded;
 use crate::memory::Memory;
 use crate::random_memory::{fill, GuardedMemory};
 use crate::store::Store;
@@ -200,7 +200,7 @@ impl Call {
         }
         let n = match rng.below(20) {
             0..=11 => rng.between(0, greatest as usize),
-            12 => number(rng),
+            12 => any_number(rng),
             _ => rng.pick(&[
                 0,
                 greatest as usize,
@@ -385,23 +385,15 @@ pub struct Ran {
     pub intact: bool,
 }
 
-/// Lends a buffer between guards. Answers what the call answers, and whether
-/// the guards are as they were made.
-fn guarded<T: Element, R>(buffer: &mut [T], call: impl FnOnce(&mut Guarded<T>) -> R) -> (R, bool) {
-    let mut lent = Guarded::from(&*buffer);
-    let answer = call(&mut lent);
-    buffer.copy_from_slice(&lent);
-    (answer, lent.is_intact())
-}
-
-fn random_bytes(rng: &mut Rng, length: usize) -> Vec<u8> {
+/// Random bytes.
+pub fn random_bytes(rng: &mut Rng, length: usize) -> Vec<u8> {
     let mut bytes = vec![0; length];
     fill(rng, &mut bytes);
     bytes
 }
 
 /// Some smaller numbers, the smallest first.
-fn smaller(number: usize) -> impl Iterator<Item = usize> {
+pub fn smaller(number: usize) -> impl Iterator<Item = usize> {
     let numbers = [
         0,
         number / 2,
@@ -461,14 +453,14 @@ impl fmt::Display for Call {
 }
 
 /// Any number, with any number of bits.
-fn number(rng: &mut Rng) -> usize {
+pub fn any_number(rng: &mut Rng) -> usize {
     let shift = rng.below(64);
     (rng.next_u64() >> shift) as usize
 }
 
 fn file(rng: &mut Rng) -> usize {
     match rng.below(40) {
-        0 => number(rng),
+        0 => any_number(rng),
         1 => rng.pick(&[FILES, FILES + 1, 256, 1 << 32, usize::MAX]),
         _ => rng.below(FILES),
     }
@@ -481,7 +473,7 @@ fn position(rng: &mut Rng) -> usize {
         0..=11 => rng.below(FILE_BYTES + 1),
         12..=15 => (rng.below(PAGES + 1) * PAGE_BYTES + rng.below(3)).saturating_sub(1),
         16 | 17 => 0,
-        18 => number(rng),
+        18 => any_number(rng),
         _ => rng.pick(&[
             FILE_BYTES,
             FILE_BYTES + 1,
@@ -511,7 +503,7 @@ fn budget(rng: &mut Rng) -> usize {
     match rng.below(8) {
         0 | 1 => rng.below(4),
         2 | 3 => rng.below(20),
-        4 => number(rng),
+        4 => any_number(rng),
         _ => rng.pick(&[
             MOUNT_WRITES,
             SYNC_WRITES,
@@ -520,24 +512,5 @@ fn budget(rng: &mut Rng) -> usize {
             1 << 32,
             usize::MAX,
         ]),
-    }
-}
-
-#[cfg(test)]
-mod tests {
-    use super::*;
-
-    #[test]
-    fn a_buffer_is_lent_between_guards() {
-        let mut buffer = [1, 2, 3];
-        let ran = guarded(&mut buffer, |lent| {
-            lent[2] = 7;
-            lent.len()
-        });
-        assert_eq!((ran, buffer), ((3, true), [1, 2, 7]));
-        for past in [false, true] {
-            let ran = guarded(&mut buffer, |lent| lent.spoil(past, 0_u8));
-            assert_eq!((ran, buffer), (((), false), [1, 2, 7]));
-        }
     }
 }

@@ -41,9 +41,8 @@ impl<T: Element> Guarded<T> {
         guards.iter().all(|&guard| guard == [T::VALUE; GUARD])
     }
 
-    /// Alters an element of a guard: the last before the slice or the first
-    /// past it.
-    #[cfg(test)]
+    /// Alters an element of a guard, for tests: the last before the slice or the
+    /// first past it.
     pub fn spoil(&mut self, past: bool, value: T) {
         let at = if past { GUARD + self.len() } else { GUARD - 1 };
         self.elements[at] = value;
@@ -107,6 +106,18 @@ impl<T: fmt::Debug> fmt::Debug for Guarded<T> {
     }
 }
 
+/// Lends a buffer between guards. Answers what the call answers, and whether
+/// the guards are as they were made.
+pub fn guarded<T: Element, R>(
+    buffer: &mut [T],
+    call: impl FnOnce(&mut Guarded<T>) -> R,
+) -> (R, bool) {
+    let mut lent = Guarded::from(&*buffer);
+    let answer = call(&mut lent);
+    buffer.copy_from_slice(&lent);
+    (answer, lent.is_intact())
+}
+
 #[cfg(test)]
 mod tests {
     use super::*;
@@ -135,5 +146,19 @@ mod tests {
         assert_eq!(*guarded, [1, 2, 9, 9]);
         guarded.fill(0);
         assert!(guarded.is_intact());
+    }
+
+    #[test]
+    fn a_buffer_is_lent_between_guards() {
+        let mut buffer = [1, 2, 3];
+        let ran = guarded(&mut buffer, |lent| {
+            lent[2] = 7;
+            lent.len()
+        });
+        assert_eq!((ran, buffer), ((3, true), [1, 2, 7]));
+        for past in [false, true] {
+            let ran = guarded(&mut buffer, |lent| lent.spoil(past, 0_u8));
+            assert_eq!((ran, buffer), (((), false), [1, 2, 7]));
+        }
     }
 }

@@ -1,6 +1,6 @@
 //! Compares two stores call by call, on random memory: sound cache states,
 //! nearly sound ones and random bytes; buffers of right and wrong lengths; all
-//! calls of `boxstore.h`, with numbers at and beyond every limit.
+//! calls of `boxstore.h` on a store, with numbers at and beyond every limit.
 
 mod call;
 mod compare;
@@ -13,11 +13,12 @@ mod shrink;
 mod store;
 mod text;
 
-pub use call::Call;
+pub use call::{any_number, random_bytes, smaller, Call};
 pub use compare::{compare, Difference, Tally};
-pub use guarded::{Element, Guarded};
+pub use guarded::{guarded, Element, Guarded};
 pub use memory::{Memory, MemoryMut, MemoryRef, MemoryVec};
-pub use pair::{zeros_follow, Answered, Pair};
+pub use pair::{zeros_follow, Answered, Pair, BESIDE};
 pub use random_memory::{fill, GuardedMemory};
-pub use reference_store::{decode, encode, Reference};
+pub use reference_store::{decode, encode, word, Reference};
 pub use store::Store;
+pub use text::Bytes;

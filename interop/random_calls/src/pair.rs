@@ -28,7 +28,7 @@ pub struct Answered {
 }
 
 /// Said of a call that alters a guard.
-const BESIDE: &str = "the call wrote before or past a slice that it was lent";
+pub const BESIDE: &str = "the call wrote before or past a slice that it was lent";
 
 impl Answered {
     /// The number of the answer, 0 for done.

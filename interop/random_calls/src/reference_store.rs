@@ -66,7 +66,8 @@ pub fn encode(state: &CacheState, bytes: &mut [u8]) {
     }
 }
 
-fn word(answer: Answer) -> u32 {
+/// An answer as a word: 65,536 * number + count.
+pub fn word(answer: Answer) -> u32 {
     65_536 * u32::from(answer.number()) + answer.count() as u32
 }
 

@@ -1,4 +1,4 @@
-//! What is compared: the calls of `boxstore.h`.
+//! What is compared: the calls of `boxstore.h` on a store.
 
 use crate::memory::{MemoryMut, MemoryRef};
 

@@ -39,10 +39,15 @@ pub enum Refusal {
     NoRoom,
     /// CUT: the budget ran out after this many media writes.
     Cut(usize),
+    /// TRIP FORM: a line of a trip list lacks the form.
+    TripForm,
+    /// TRIP ORDER: the minute of a trip is not above the one before.
+    TripOrder,
 }
 
 impl Refusal {
-    /// The number of the refusal in document 01, 1 to 9.
+    /// The number of the refusal, 1 to 9 in document 01, 10 and 11 in document
+    /// 02.
     pub fn number(self) -> u8 {
         match self {
             Refusal::Line => 1,
@@ -54,6 +59,8 @@ impl Refusal {
             Refusal::Range => 7,
             Refusal::NoRoom => 8,
             Refusal::Cut(_) => 9,
+            Refusal::TripForm => 10,
+            Refusal::TripOrder => 11,
         }
     }
 }

@@ -1,12 +1,16 @@
-//! The store of document 01 once more, written for speed: the yardstick of the
-//! benchmark. The calls have the signatures of `boxstore::raw`, and the same
-//! result on every input, but for where an empty look lies.
+//! The store of document 01 and the trip lists of document 02 once more, written
+//! for speed: the yardstick of the benchmark. The calls have the signatures of
+//! `boxstore::raw`, and the same result on every input, but for where an empty
+//! look lies. Those on trip lists are there twice, in [`trips`] and [`trip_words`].
 //!
 //! The cache state is worked on in place, in its bytes. Nothing is allocated, and
 //! a byte is moved only where the call's result needs it moved. No call is
 //! inlined into its caller, as those of a linked archive are not.
 
 mod state;
+mod trip_lines;
+pub mod trip_words;
+pub mod trips;
 
 use layout::{
     floor_at, logical_at, put_size, size, slot_at, FILES, FILE_BYTES, FRAMES_BYTES, MEDIA_BYTES,

@@ -1,0 +1,347 @@
+//! The comparison finds an implementation with a fault.
+
+use layout::{LIST_BYTES, TRIP_NUMBERS};
+use random_calls::Reference;
+use random_lists::{compare, Call, Check, TripLists};
+
+const FORM: u32 = 10 << 16;
+const ORDER: u32 = 11 << 16;
+
+/// The reference, with one fault.
+struct Faulty<const FAULT: usize>;
+
+const FAULTS: usize = 34;
+
+/// The bytes between two LF.
+fn lines(list: &[u8]) -> impl Iterator<Item = &[u8]> {
+    list.split_inclusive(|&byte| byte == b'\n')
+}
+
+/// The list as the fault lets it be read.
+fn seen<const FAULT: usize>(list: &[u8]) -> Vec<u8> {
+    let replaced = |from: u8, to: u8| {
+        let bytes = list.iter();
+        bytes
+            .map(|&byte| if byte == from { to } else { byte })
+            .collect()
+    };
+    let fields = |change: &dyn Fn(usize, &[u8]) -> Vec<u8>| {
+        let lines = lines(list).map(|line| {
+            let fields = line.split(|&byte| byte == b',').enumerate();
+            let fields: Vec<Vec<u8>> = fields.map(|(at, field)| change(at, field)).collect();
+            fields.join(&b',')
+        });
+        lines.collect::<Vec<_>>().concat()
+    };
+    match FAULT {
+        // each byte just outside of a driver's
+        1 => replaced(b'@', b'A'),
+        2 => replaced(b'[', b'Z'),
+        3 => replaced(b'/', b'0'),
+        4 => replaced(b':', b'9'),
+        // small letters
+        5 => replaced(b'a', b'A'),
+        // CR before LF
+        6 => fields(&|_, field| match field.strip_suffix(b"\r\n") {
+            Some(field) => [field, b"\n"].concat(),
+            None => field.to_vec(),
+        }),
+        // one above the largest number wraps
+        7 => fields(&|_, field| match field {
+            b"4294967296" => b"0000000000".to_vec(),
+            _ => field.to_vec(),
+        }),
+        // 11 digits where the first is 0
+        8 => fields(&|at, field| match field {
+            [b'0', rest @ ..] if at < 2 && rest.len() == 10 => rest.to_vec(),
+            _ => field.to_vec(),
+        }),
+        // 17 characters
+        9 => fields(&|at, field| match field {
+            [rest @ .., _, b'\n'] if at == 2 && rest.len() == 16 => [rest, b"\n"].concat(),
+            _ => field.to_vec(),
+        }),
+        // empty lines
+        10 => {
+            let lines = lines(list).filter(|line| *line != b"\n");
+            lines.collect::<Vec<_>>().concat()
+        }
+        // no LF at the end
+        11 if !list.is_empty() && !list.ends_with(b"\n") => [list, b"\n"].concat(),
+        // a list of the greatest length is too long
+        12 if list.len() == LIST_BYTES => vec![b'x'; LIST_BYTES + 1],
+        // a list that is too long is read as far as it may go
+        13 if list.len() > LIST_BYTES => list[..LIST_BYTES].to_vec(),
+        // a fourth field
+        14 => fields(&|at, field| match field {
+            b"A\n" if at == 3 => b"\n".to_vec(),
+            _ => field.to_vec(),
+        }),
+        // equal minutes: the second line is left out
+        32 => {
+            let mut last = None;
+            let lines = lines(list).filter(|line| {
+                let minute = minute(line);
+                let equal = minute.is_some() && minute == last;
+                last = minute;
+                !equal
+            });
+            lines.collect::<Vec<_>>().concat()
+        }
+        _ => list.to_vec(),
+    }
+}
+
+/// The minute of a line, where it begins with one.
+fn minute(line: &[u8]) -> Option<u64> {
+    let digits = line.split(|&byte| byte == b',').next()?;
+    std::str::from_utf8(digits).ok()?.parse().ok()
+}
+
+/// As a refusal of the order that comes before one of the form.
+fn order_first(list: &[u8], word: u32) -> u32 {
+    let mut last = None;
+    for line in lines(list).take_while(|_| word == FORM) {
+        match (last, minute(line)) {
+            (Some(last), Some(minute)) if minute <= last => return ORDER,
+            (_, None) => return word,
+            (_, minute) => last = minute,
+        }
+    }
+    word
+}
+
+/// Writes all fields otherwise into the buffer as it came, and counts the bytes.
+fn respell(
+    written: &[u8],
+    came: &[u8],
+    buffer: &mut [u8],
+    spell: impl Fn(usize, &str) -> String,
+) -> u32 {
+    let written = String::from_utf8_lossy(written);
+    let text: String = written
+        .lines()
+        .map(|line| {
+            let fields = line.split(',').enumerate();
+            let fields: Vec<String> = fields.map(|(at, field)| spell(at, field)).collect();
+            fields.join(",") + "\n"
+        })
+        .collect();
+    buffer.copy_from_slice(came);
+    buffer[..text.len()].copy_from_slice(text.as_bytes());
+    text.len() as u32
+}
+
+impl<const FAULT: usize> TripLists for Faulty<FAULT> {
+    fn read_trip(list: &[u8], place: usize, trip: &mut [u32]) -> u32 {
+        // RANGE before SHAPE
+        if FAULT == 15 && list.len() > LIST_BYTES {
+            return 7 << 16;
+        }
+        let place = match FAULT {
+            16 => place as u32 as usize,
+            _ => place,
+        };
+        let before = trip.to_vec();
+        let word = Reference::read_trip(&seen::<FAULT>(list), place, trip);
+        let done = word < 65_536;
+        match FAULT {
+            // only the lines up to the place are looked at
+            17 if !done && place < list.len() => {
+                let lines: Vec<&[u8]> = lines(list).take(place + 1).collect();
+                return Reference::read_trip(&lines.concat(), place, trip);
+            }
+            // the count is that of the trips up to the place
+            18 if done && place < word as usize => return place as u32 + 1,
+            // past the last it clears the trip
+            19 if done && trip == before => trip.fill(0),
+            // refusing, it clears the trip
+            20 if !done => trip.fill(0),
+            // the driver's index counts from its line
+            21 if done && trip != before => {
+                let start = trip[2] as usize;
+                let line = list[..start].iter().rposition(|&byte| byte == b'\n');
+                trip[2] = (start - line.map_or(0, |lf| lf + 1)) as u32;
+            }
+            22 => return order_first(list, word),
+            _ => {}
+        }
+        word
+    }
+
+    fn next_trip(list: &[u8], at: usize, least: usize, trip: &mut [u32]) -> u32 {
+        let (at, least) = match FAULT {
+            23 => (at, least as u32 as usize),
+            24 => (at as u32 as usize, least),
+            // above the least minute
+            25 => (at, least.saturating_add(usize::from(least > 0))),
+            _ => (at, least),
+        };
+        // the last byte does not count
+        if FAULT == 26 && trip.len() == TRIP_NUMBERS && at.checked_add(1) == Some(list.len()) {
+            return 0;
+        }
+        let before = trip.to_vec();
+        let word = Reference::next_trip(&seen::<FAULT>(list), at, least, trip);
+        // only where a line starts
+        if FAULT == 27 && (1..65_536).contains(&word) && at > 0 && list[at - 1] != b'\n' {
+            trip.copy_from_slice(&before);
+            return FORM;
+        }
+        // at the end it clears the trip
+        if FAULT == 34 && word == 0 {
+            trip.fill(0);
+        }
+        word
+    }
+
+    fn write_trips(list: &[u8], buffer: &mut [u8]) -> u32 {
+        let list = seen::<FAULT>(list);
+        let came = buffer.to_vec();
+        let word = Reference::write_trips(&list, buffer);
+        let count = word as usize;
+        let written = buffer.get(..count).map(<[u8]>::to_vec).unwrap_or_default();
+        match FAULT {
+            // leading zeros stay
+            28 if count < 65_536 => {
+                buffer[..list.len()].copy_from_slice(&list);
+                return list.len() as u32;
+            }
+            // the rest of the buffer is cleared
+            29 if count < 65_536 => buffer[count..].fill(0),
+            // what comes before the line that is refused is written
+            30 if word == ORDER => {
+                let line = lines(&list).next().unwrap_or_default();
+                buffer[..line.len()].copy_from_slice(line);
+            }
+            // drivers lose a leading 0
+            31 if count < 65_536 => {
+                return respell(&written, &came, buffer, |at, field| {
+                    match field.strip_prefix('0') {
+                        Some(rest) if at == 2 && !rest.is_empty() => rest.to_owned(),
+                        _ => field.to_owned(),
+                    }
+                });
+            }
+            // the number 0 has no digit
+            33 if count < 65_536 => {
+                return respell(&written, &came, buffer, |at, field| match field {
+                    "0" if at < 2 => String::new(),
+                    _ => field.to_owned(),
+                });
+            }
+            _ => {}
+        }
+        word
+    }
+}
+
+#[test]
+fn an_implementation_equals_itself_and_gives_every_answer() {
+    let tally = compare::<Reference, Faulty<0>>(1, 4_000).unwrap();
+    assert_eq!((tally.lists, tally.calls()), (4_000, 32_000));
+    assert!((1_000..3_000).contains(&tally.accepted), "{tally:?}");
+    assert_eq!(tally.missing(), [""; 0]);
+    for name in ["read_trip", "next_trip", "write_trips"] {
+        let answers = tally.of(name);
+        for number in [0, 2, 7, 10, 11] {
+            assert!(answers[number] > 50, "{name}: {answers:?}");
+        }
+    }
+}
+
+#[test]
+fn few_lists_do_not_give_every_answer() {
+    let tally = compare::<Reference, Reference>(1, 1).unwrap();
+    assert!(!tally.missing().is_empty());
+}
+
+#[test]
+fn every_fault_is_found() {
+    let found = [
+        compare::<Reference, Faulty<1>>,
+        compare::<Reference, Faulty<2>>,
+        compare::<Reference, Faulty<3>>,
+        compare::<Reference, Faulty<4>>,
+        compare::<Reference, Faulty<5>>,
+        compare::<Reference, Faulty<6>>,
+        compare::<Reference, Faulty<7>>,
+        compare::<Reference, Faulty<8>>,
+        compare::<Reference, Faulty<9>>,
+        compare::<Reference, Faulty<10>>,
+        compare::<Reference, Faulty<11>>,
+        compare::<Reference, Faulty<12>>,
+        compare::<Reference, Faulty<13>>,
+        compare::<Reference, Faulty<14>>,
+        compare::<Reference, Faulty<15>>,
+        compare::<Reference, Faulty<16>>,
+        compare::<Reference, Faulty<17>>,
+        compare::<Reference, Faulty<18>>,
+        compare::<Reference, Faulty<19>>,
+        compare::<Reference, Faulty<20>>,
+        compare::<Reference, Faulty<21>>,
+        compare::<Reference, Faulty<22>>,
+        compare::<Reference, Faulty<23>>,
+        compare::<Reference, Faulty<24>>,
+        compare::<Reference, Faulty<25>>,
+        compare::<Reference, Faulty<26>>,
+        compare::<Reference, Faulty<27>>,
+        compare::<Reference, Faulty<28>>,
+        compare::<Reference, Faulty<29>>,
+        compare::<Reference, Faulty<30>>,
+        compare::<Reference, Faulty<31>>,
+        compare::<Reference, Faulty<32>>,
+        compare::<Reference, Faulty<33>>,
+        compare::<Reference, Faulty<34>>,
+    ]
+    .map(|compare| compare(1, 8_000).is_err());
+    assert_eq!(found, [true; FAULTS]);
+}
+
+/// By the laws, without another implementation that is right.
+#[test]
+fn some_faults_are_found_beside_themselves() {
+    let found = [
+        compare::<Faulty<10>, Faulty<10>>,
+        compare::<Faulty<17>, Faulty<17>>,
+        compare::<Faulty<18>, Faulty<18>>,
+        compare::<Faulty<19>, Faulty<19>>,
+        compare::<Faulty<20>, Faulty<20>>,
+        compare::<Faulty<21>, Faulty<21>>,
+        compare::<Faulty<22>, Faulty<22>>,
+        compare::<Faulty<23>, Faulty<23>>,
+        compare::<Faulty<25>, Faulty<25>>,
+        compare::<Faulty<26>, Faulty<26>>,
+        compare::<Faulty<28>, Faulty<28>>,
+        compare::<Faulty<29>, Faulty<29>>,
+        compare::<Faulty<30>, Faulty<30>>,
+        compare::<Faulty<31>, Faulty<31>>,
+        compare::<Faulty<33>, Faulty<33>>,
+        compare::<Faulty<34>, Faulty<34>>,
+    ]
+    .map(|compare| compare(1, 8_000).is_err());
+    assert_eq!(found, [true; 16]);
+}
+
+#[test]
+fn a_difference_is_told_in_its_simplest_form() {
+    let difference = compare::<Reference, Faulty<21>>(1, 8_000).unwrap_err();
+    // the second of two trips
+    assert_eq!(difference.list, b"0,0,0\n1,0,0\n");
+    let Check::Call(Call::ReadTrip { place: 1, trip }) = &difference.check else {
+        panic!("{difference}");
+    };
+    assert_eq!(*trip, [1; TRIP_NUMBERS]);
+    let text = difference.to_string();
+    assert!(text.starts_with("seed 1, list "), "{text}");
+    assert!(text.contains(": the buffers differ: "), "{text}");
+    assert!(
+        text.ends_with("\nread_trip place 1, trip [1, 1, 1, 1]\non 12 bytes: \"0,0,0\\n1,0,0\\n\""),
+        "{text}"
+    );
+
+    // by a law
+    let difference = compare::<Faulty<28>, Faulty<28>>(1, 8_000).unwrap_err();
+    assert_eq!(difference.list, b"0,0,0\n");
+    assert_eq!(difference.check, Check::Laws { step: 1 });
+}
