@@ -1,12 +1,11 @@
 -- The replies of the calls on trip lists: counts that fit a word, and four numbers of a trip.
-use mathlib.Core.Path.{_≡_, refl, sym, ap, _∙_}
+use mathlib.Core.Path.{_≡_, refl, ap}
 use mathlib.Core.Logic.{_≢_}
 use mathlib.Core.List.{List, [], _∷_}
-use Prim.Native.Nat.{ℕ, _≤_, _<_}
+use Prim.Native.Nat.{ℕ, _<_}
 use native.Mathlib.Omega.{arith}
 use lib.ListN.{length, set}
 use borrow.Author.Tests.{eq-eqb, ne-eqb}
-use Rattle.answer.specs.Coded.{Coded}
 use Rattle.trip_list.specs.declared.Lookup.{Lookup}
 use Rattle.trip_list.specs.Lookup.{Given, looked, readTrip, nextTrip}
 use Rattle.trip_list.proofs.Parsing.{list-count}

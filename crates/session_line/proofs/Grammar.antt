@@ -1,21 +1,20 @@
 -- Laws of the grammar: fields one by one, numbers, and the form of a letter.
 use mathlib.Core.Path.{_≡_, refl, sym, _∙_}
 use mathlib.Core.Logic.{_≢_}
-use mathlib.Core.Bool.{Bool, true, false, cond, _&&_, false≢true}
+use mathlib.Core.Bool.{Bool, true, false, cond, false≢true}
 use mathlib.Core.List.{List, [], _∷_, map, _++_, append-nil, append-assoc}
-use Prim.Native.Nat.{ℕ, zero, suc, _+_, _-_, _*_, _^_, _<_, _≤_}
+use Prim.Native.Nat.{ℕ, zero, suc, _+_, _-_, _<_, _≤_}
 use native.Mathlib.Omega.{arith}
-use native.Mathlib.Nat.{not-suc-le-zero, le-of-suc-le-suc, pow-succ', pow-le-pow-right, lt-of-lt-of-le}
+use native.Mathlib.Nat.{not-suc-le-zero, le-of-suc-le-suc}
 use native.Mathlib.Numerals.{add-one}
-use lib.Dec.{eqb, leb}
+use lib.Dec.{eqb}
 use lib.ListN.{length, getD, set, take, drop, drop-of-length-le, length-drop}
-use lib.Seq.{drop-cons, drop-drop, take-suc-set, take-all, getD-take}
-use borrow.Author.Tests.{leb-true, eq-eqb, ne-eqb, le-leb, lt-leb}
-use borrow.Table.Steps.{cases}
+use lib.Seq.{drop-cons, drop-drop, take-suc-set, getD-take}
+use borrow.Author.Tests.{eq-eqb, ne-eqb, le-leb, lt-leb}
 use Rattle.memory.proofs.Bytes.{length-front, rest-whole}
 use Rattle.memory.proofs.Cases.{split-eq}
-use Rattle.scan.specs.Scan.{every, firstIndex}
-use Rattle.scan.proofs.Scan.{and-left, and-right, allOf-at, every-at, first-le}
+use Rattle.scan.specs.Scan.{firstIndex}
+use Rattle.scan.proofs.Scan.{and-left, and-right, first-le}
 use Rattle.text.specs.Decimal.{value}
 use Rattle.text.specs.Marks.{comma, fields}
 use Rattle.text.proofs.Decimal.{numeral}

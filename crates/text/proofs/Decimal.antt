@@ -1,6 +1,6 @@
 -- Laws of decimal numbers: digits, numerals, and the digits of a number.
 use mathlib.Core.Path.{_≡_, refl, sym, ap, _∙_}
-use mathlib.Core.Bool.{Bool, true, false, cond, _&&_}
+use mathlib.Core.Bool.{Bool, true, false, _&&_}
 use mathlib.Core.Logic.{_≢_}
 use mathlib.Core.List.{List, [], _∷_, _++_, append-assoc, append-nil}
 use Prim.Native.Nat.{ℕ, zero, suc, _+_, _-_, _*_, _/_, _%_, _^_, _≤_, _<_}
@@ -8,11 +8,11 @@ use native.Mathlib.Omega.{arith}
 use native.Mathlib.Nat.{not-suc-le-zero, pow-succ', pow-suc, pow-le-pow-right, lt-of-lt-of-le}
 use native.Mathlib.Numerals.{add-one}
 use lib.Dec.{eqb, ltb, leb}
-use lib.ListN.{length, getD, take, drop, length-append, length-drop, drop-of-length-le}
-use lib.Seq.{drop-cons, take-suc, take-all}
+use lib.ListN.{length, getD, drop, length-append, length-drop, drop-of-length-le}
+use lib.Seq.{drop-cons}
 use borrow.Author.Tests.{eqb-true, eqb-false, eq-eqb, ne-eqb, leb-true, le-leb, lt-leb, lt-ltb, le-ltb, ltb-true, ltb-false}
 use borrow.Table.Steps.{cases}
-use Rattle.scan.specs.Scan.{allOf, every}
+use Rattle.scan.specs.Scan.{every}
 use Rattle.scan.proofs.Scan.{and-left, and-right, allOf-at, every-at, every-join}
 use Rattle.text.specs.Decimal.{isDigit, valueFrom, value, isNumeral, digitsIn, digitsBound, decimal, leadingZeros}
 
@@ -60,22 +60,6 @@ valued-end text i n v h = rw (drop-of-length-le text h) at (v .so-far)
 -- at most k digits before
 pub valued-small : (text : List ℕ) (i n k : ℕ) → Valued text i n → i ≤ k → n < 10 ^ k
 valued-small text i n k v h = lt-of-lt-of-le (v .bound) (pow-le-pow-right {n = 10} (omega arith) {i = i} {j = k} h)
-
--- i digits make a number below the power of 10
-below-power : (xs : List ℕ) (i : ℕ) → every isDigit xs ≡ true → i ≤ length xs → value (take i xs) < 10 ^ i
-below-power xs zero e h = omega arith
-below-power xs (suc i) e h =
-    let k : i < length xs = omega arith in
-    let b = digit-at xs i e k in
-    let r : value (take i xs) < 10 ^ i = below-power xs i e (omega arith) in
-    let q : 10 * value (take i xs) + (getD xs i 0 - 48) < 10 * 10 ^ i = omega (arith, r, b) in
-    rw (take-suc xs i 0 k, value-join 0 (take i xs) (getD xs i 0), pow-succ') q
-
-pub value-below : (xs : List ℕ) → every isDigit xs ≡ true → value xs < 10 ^ length xs
-value-below xs e =
-    let b = below-power xs (length xs) e (omega arith) in
-    let whole : take (length xs) xs ≡ xs = take-all (length xs) xs (omega arith) in
-    rw whole at b
 
 -- ---- numerals
 

@@ -1,6 +1,6 @@
 -- Laws of texts between marks.
 use mathlib.Core.Path.{_≡_, refl, sym, ap, _∙_}
-use mathlib.Core.Bool.{Bool, true, false, cond, not}
+use mathlib.Core.Bool.{Bool, true, false, not}
 use mathlib.Core.List.{List, [], _∷_, _++_}
 use Prim.Native.Nat.{ℕ}
 use lib.Dec.{eqb}
@@ -9,7 +9,7 @@ use borrow.Author.Tests.{eq-eqb, eqb-true}
 use borrow.Table.Steps.{cases}
 use Rattle.scan.specs.Scan.{every, firstIndex}
 use Rattle.scan.proofs.Scan.{and-left, and-right}
-use Rattle.text.specs.Marks.{isMark, inFirst, parts, restParts}
+use Rattle.text.specs.Marks.{isMark, parts, restParts}
 
 module _ (mark : ℕ) where
   -- the first text, and those after it

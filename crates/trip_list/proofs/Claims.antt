@@ -1,6 +1,6 @@
 -- What holds of the definitions: which lists are accepted, and that there is one spelling.
 use mathlib.Core.Path.{_≡_, refl, sym, ap, _∙_}
-use mathlib.Core.Bool.{Bool, true, _&&_}
+use mathlib.Core.Bool.{true, _&&_}
 use mathlib.Core.List.{List, [], _∷_, _++_, map, append-assoc}
 use Prim.Native.Nat.{ℕ, zero, suc, _+_, _≤_, _<_}
 use native.Mathlib.Omega.{arith}
@@ -9,18 +9,18 @@ use lib.Dec.{leb}
 use lib.ListN.{length, getD, take, drop, length-append, length-drop, take-append-drop}
 use lib.Seq.{take-at}
 use borrow.Author.Tests.{leb-true, le-leb, eq-eqb}
-use Rattle.answer.specs.Coded.{Coded, done}
+use Rattle.answer.specs.Coded.{done}
 use Rattle.memory.proofs.Bytes.{overwrite-cut}
-use Rattle.scan.proofs.Scan.{and-left, and-right, and-both, allOf-at}
+use Rattle.scan.proofs.Scan.{and-left, and-right, allOf-at}
 use Rattle.text.specs.Decimal.{value, decimal}
 use Rattle.text.specs.Marks.{LF, comma}
-use Rattle.text.proofs.Decimal.{Numeral, numeral, decimal-numeral, value-decimal}
+use Rattle.text.proofs.Decimal.{decimal-numeral, value-decimal}
 use Rattle.trip_list.specs.Trip.{Trip, trip, greatestNumber, isNumber, isDriver, tripOf, spellTrip, spell, inLimits}
 use Rattle.trip_list.specs.List.{Parsed, trips, refusal, before, parseFrom, parse, tripsOf, greatestList, answerOf, listAnswer, spelling, writeAnswer, written, validFrom, valid}
 use Rattle.trip_list.specs.Lines.{hasLine, firstTrip, lineLength}
 use Rattle.trip_list.specs.Entries.{Entry, linesOf, entriesFrom, entryTrip}
-use Rattle.trip_list.proofs.Lines.{lineOf, Three, minuteOf, metresOf, driverOf, Texts, texts, line-has, line-trip, line-rest}
-use Rattle.trip_list.proofs.Parsing.{Accepted, line-within, from-end, from-next, First, parsed-first, parsed-none, list-parsed, accepted, accepted-short, accepted-trips}
+use Rattle.trip_list.proofs.Lines.{number-small, lineOf, Three, minuteOf, metresOf, driverOf, texts, line-has, line-trip, line-rest}
+use Rattle.trip_list.proofs.Parsing.{Accepted, line-within, from-end, from-next, parsed-first, parsed-none, list-parsed, accepted, accepted-short, accepted-trips}
 use Rattle.trip_list.proofs.Spelling.{spell-shorter, spell-same}
 
 -- ---- which lists are accepted: lines of three texts of the form, with rising minutes, and no others
@@ -128,9 +128,6 @@ pub spell-injective : (a b : List Trip) → valid a ≡ true → valid b ≡ tru
 spell-injective a b e f q = ap tripsOf (sym (parse-spell a e) ∙ ap parse q ∙ parse-spell b f)
 
 -- ---- what is parsed is within its limits
-
-number-small : (m : List ℕ) → isNumber m ≡ true → value m ≤ greatestNumber
-number-small m e = numeral 10 greatestNumber m e .small
 
 first-limits : (s : List ℕ) → hasLine s ≡ true → inLimits (firstTrip s) ≡ true
 unfolding inLimits firstTrip tripOf

@@ -1,27 +1,25 @@
 -- A line has the form exactly where it is a number, a comma, a number, a comma, a driver and LF; and what the code finds of it.
 use mathlib.Core.Path.{_≡_, refl, sym, ap, _∙_}
-use mathlib.Core.Bool.{Bool, true, false, _&&_, _||_, not}
+use mathlib.Core.Bool.{true, false}
 use mathlib.Core.List.{List, [], _∷_, _++_, append-assoc}
-use Prim.Native.Nat.{ℕ, zero, suc, _+_, _-_, _≤_, _<_}
+use Prim.Native.Nat.{ℕ, _+_, _-_, _≤_, _<_}
 use native.Mathlib.Omega.{arith}
 use native.Mathlib.Numerals.{add-one}
 use lib.Dec.{eqb, ltb, leb}
-use lib.ListN.{length, getD, take, drop, length-append, take-append-drop, length-drop}
-use lib.Seq.{drop-append-add, drop-drop, drop-cons, getD-append-seam, take-append-seam}
-use borrow.Author.Tests.{eq-eqb, ne-eqb, eqb-true, le-leb, leb-true, lt-ltb, ltb-true}
+use lib.ListN.{length, getD, drop, length-append, take-append-drop}
+use lib.Seq.{drop-append-add, drop-cons, take-append-seam}
+use borrow.Author.Tests.{ne-eqb, eqb-true, leb-true, lt-ltb, ltb-true}
 use borrow.Table.Steps.{cases}
 use Rattle.memory.proofs.Bytes.{length-front}
-use Rattle.scan.specs.Scan.{allOf, every, firstIndex}
-use Rattle.scan.proofs.Scan.{and-left, and-right, and-both, is-false, allOf-at, every-join, every-impl, first-le, first-passes, first-join}
-use Rattle.text.specs.Decimal.{isDigit, value, leadingZeros}
+use Rattle.scan.specs.Scan.{every, firstIndex}
+use Rattle.scan.proofs.Scan.{and-left, and-right, allOf-at, every-join, every-impl, first-le, first-passes, first-join}
+use Rattle.text.specs.Decimal.{isDigit, value}
 use Rattle.text.specs.Marks.{LF, comma, isMark, fields}
-use Rattle.text.proofs.Decimal.{Numeral, numeral, digit-bounds}
+use Rattle.text.proofs.Decimal.{numeral}
 use Rattle.text.proofs.Marks.{isOther, parts-after, parts-alone, between, parts-between}
 use Rattle.trip_list.specs.declared.Line as line
-use Rattle.trip_list.specs.Trip.{Trip, trip, greatestNumber, isDriverByte, isNumber, isDriver, field, hasForm, tripOf}
+use Rattle.trip_list.specs.Trip.{trip, greatestNumber, isDriverByte, isNumber, isDriver, field, hasForm, tripOf}
 use Rattle.trip_list.specs.Lines.{firstLine, hasLine, firstTrip, lineLength, driverStart}
-use Rattle.trip_list.specs.Scanner.{run, front, numberField, driverField, NumberRead, DriverRead, LineFields, LineRead}
-use Rattle.trip_list.proofs.Runs.{run-join, front-join, mark-within, front-split, length-run}
 
 -- ---- texts that are fields
 
@@ -81,6 +79,9 @@ pub record Three (m k d : List ℕ) : Type 0 where
 
 pub number-digits : (m : List ℕ) → isNumber m ≡ true → every isDigit m ≡ true
 number-digits m e = numeral 10 greatestNumber m e .digits
+
+pub number-small : (m : List ℕ) → isNumber m ≡ true → value m ≤ greatestNumber
+number-small m e = numeral 10 greatestNumber m e .small
 
 number-letters : (m : List ℕ) → isNumber m ≡ true → every isDriverByte m ≡ true
 number-letters m e = digits-driver m (number-digits m e)

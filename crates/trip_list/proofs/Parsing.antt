@@ -1,26 +1,25 @@
 -- Laws of a list, one line after another.
 use mathlib.Core.Path.{_≡_, refl, sym, ap, _∙_}
 use mathlib.Core.Bool.{Bool, true, false, cond, _&&_, false≢true}
-use mathlib.Core.List.{List, [], _∷_, _++_}
+use mathlib.Core.List.{List, [], _∷_}
 use mathlib.Core.Logic.{_≢_}
-use Prim.Native.Nat.{ℕ, zero, suc, _+_, _-_, _≤_, _<_}
+use Prim.Native.Nat.{ℕ, suc, _+_, _-_, _≤_, _<_}
 use native.Mathlib.Omega.{arith}
 use native.Mathlib.Nat.{not-suc-le-zero}
-use native.Mathlib.Numerals.{add-one}
 use lib.Dec.{eqb, ltb, leb}
-use lib.ListN.{length, getD, take, drop, length-append, length-drop, drop-of-length-le}
-use lib.Seq.{drop-cons, drop-drop}
-use borrow.Author.Tests.{eqb-true, leb-true, leb-false, lt-ltb, le-ltb, le-leb, lt-leb, ltb-true, ltb-false, ne-eqb}
+use lib.ListN.{length, getD, take, drop, length-drop, drop-of-length-le}
+use lib.Seq.{drop-cons}
+use borrow.Author.Tests.{eqb-true, leb-true, leb-false, le-leb, lt-leb, ltb-true, ltb-false, ne-eqb}
 use borrow.Table.Steps.{cases}
 use Rattle.answer.specs.Coded.{Coded, done, RANGE, TRIP-FORM, TRIP-ORDER}
 use Rattle.memory.proofs.Bytes.{length-front}
 use Rattle.scan.specs.Scan.{firstIndex}
 use Rattle.scan.proofs.Scan.{and-left, and-right, first-le}
-use Rattle.text.specs.Marks.{LF, isMark, parts, restParts}
+use Rattle.text.specs.Marks.{LF, isMark, parts}
 use Rattle.text.proofs.Marks.{parts-split}
 use Rattle.trip_list.specs.Trip.{Trip, hasForm, tripOf}
 use Rattle.trip_list.specs.List.{Parsed, trips, refusal, before, parseLines, parseFrom, parse, tripsOf, greatestList, answerOf, listAnswer}
-use Rattle.trip_list.specs.Lines.{firstLine, hasLine, firstTrip, lineLength, lineStart}
+use Rattle.trip_list.specs.Lines.{firstLine, hasLine, firstTrip, lineLength}
 
 -- ---- the first line
 

@@ -8,11 +8,11 @@ use native.Mathlib.Nat.{pow-succ', pow-le-pow-right, lt-of-lt-of-le}
 use native.Mathlib.Numerals.{add-one}
 use lib.Dec.{eqb, leb, ltb}
 use lib.ListN.{length, getD, take, drop, List·getD-eq-default, drop-of-length-le, take-append-drop}
-use lib.Seq.{take-suc, drop-cons, take-append-seam, getD-append-seam}
+use lib.Seq.{take-suc, drop-cons, take-append-seam}
 use borrow.Author.Tests.{eqb-true, le-leb, lt-leb, leb-true, ltb-true, ltb-false}
 use borrow.Table.Steps.{cases}
 use Rattle.memory.proofs.Bytes.{length-front}
-use Rattle.scan.specs.Scan.{every, firstIndex}
+use Rattle.scan.specs.Scan.{every}
 use Rattle.scan.proofs.Scan.{every-impl, first-le, first-join}
 use Rattle.scan.proofs.Loops.{searched-next, searched-here}
 use Rattle.text.specs.Decimal.{isDigit, value, isNumeral}

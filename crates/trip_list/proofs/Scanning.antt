@@ -1,12 +1,12 @@
 -- What the code finds of a line, field after field.
 use mathlib.Core.Path.{_≡_, refl, sym, ap, _∙_}
-use mathlib.Core.Bool.{Bool, true, false, _&&_, false≢true}
+use mathlib.Core.Bool.{Bool, true, false, false≢true}
 use mathlib.Core.List.{List, [], _∷_, _++_}
 use Prim.Native.Nat.{ℕ, _+_, _-_, _≤_, _<_}
 use native.Mathlib.Omega.{arith}
 use lib.Dec.{eqb}
 use lib.ListN.{length, getD, take, drop, length-drop}
-use lib.Seq.{drop-append-add, drop-drop, getD-append-seam}
+use lib.Seq.{drop-drop, getD-append-seam}
 use borrow.Author.Tests.{eqb-true}
 use Rattle.scan.proofs.Scan.{and-left, and-right, is-false}
 use Rattle.text.specs.Decimal.{isDigit, value, leadingZeros}
@@ -14,7 +14,7 @@ use Rattle.text.specs.Marks.{LF, comma, fields}
 use Rattle.trip_list.specs.declared.Line as line
 use Rattle.trip_list.specs.Trip.{Trip, trip, isDriverByte, isNumber, isDriver, field}
 use Rattle.trip_list.specs.Lines.{firstLine, hasLine, firstTrip, lineLength, driverStart}
-use Rattle.trip_list.specs.Scanner.{run, front, numberField, driverField, NumberRead, DriverRead, LineFields, LineRead}
+use Rattle.trip_list.specs.Scanner.{run, front, numberField, driverField, NumberRead, DriverRead, LineRead}
 use Rattle.trip_list.proofs.Runs.{run-join, front-join, mark-within, front-split, length-run}
 use Rattle.trip_list.proofs.Lines.{number-digits, driver-every, LF-no-driver, after-mark, lineOf, Three, minuteOf, metresOf, driverOf, Texts, texts, line-fields, line-has, line-trip, line-length, line-driver}
 
@@ -83,9 +83,6 @@ module _ (s : List ℕ) (b : Bool) (v i : ℕ) (r : NumberRead s b v i) where
     pub second-within : i + 1 ≤ length s
     second-within = omega (arith, first .within, digits)
 
-    pub first-digits : i ≤ length s
-    first-digits = omega (arith, second-within)
-
     module _ (u : List ℕ) (w : u ≡ drop (i + 1) s) where
       -- the rest of a line that has the form
       after-minute : (t : Texts s) → u ≡ metresOf s ++ (comma ∷ driverOf s ++ (LF ∷ drop (lineLength s) s))
@@ -152,9 +149,6 @@ module _ (s : List ℕ) (b : Bool) (v i : ℕ) (r : NumberRead s b v i) where
 
                 pub end-within : i + 1 + j + 1 + n + 1 ≤ length s
                 end-within = omega (arith, third .within, letters, ap length y ∙ length-drop (i + 1 + j + 1) s, third-within)
-
-                pub few-letters : n ≤ length s
-                few-letters = omega (arith, end-within)
 
                 abbrev M : List ℕ
                 M = front isDigit s

@@ -1,22 +1,18 @@
 -- Laws of the one spelling of a line: it is the line without the zeros before its numbers.
-use mathlib.Core.Path.{_≡_, refl, sym, ap, _∙_}
-use mathlib.Core.Bool.{Bool, true}
+use mathlib.Core.Path.{_≡_, sym, ap, _∙_}
+use mathlib.Core.Bool.{true}
 use mathlib.Core.List.{List, [], _∷_, _++_, append-assoc}
-use Prim.Native.Nat.{ℕ, zero, suc, _+_, _-_, _≤_, _<_}
+use Prim.Native.Nat.{ℕ, _+_, _-_, _<_}
 use native.Mathlib.Omega.{arith}
 use lib.ListN.{length, take, drop, length-append, length-drop}
 use lib.Seq.{drop-drop, drop-append-le, drop-append-add, take-at}
 use Rattle.memory.specs.Bytes.{part}
 use Rattle.text.specs.Decimal.{value, decimal, leadingZeros}
 use Rattle.text.specs.Marks.{LF, comma}
-use Rattle.text.proofs.Decimal.{Numeral, numeral, decimal-value, zeros-below}
-use Rattle.trip_list.specs.Trip.{Trip, trip, greatestNumber, isNumber, tripOf, spellTrip}
+use Rattle.text.proofs.Decimal.{numeral, decimal-value, zeros-below}
+use Rattle.trip_list.specs.Trip.{greatestNumber, isNumber, tripOf, spellTrip}
 use Rattle.trip_list.specs.Lines.{hasLine, firstTrip, lineLength}
-use Rattle.trip_list.proofs.Lines.{lineOf, minuteOf, metresOf, driverOf, Texts, texts, line-length}
-
-pub spell-length : (t : Trip) → length (spellTrip t) ≡ length (decimal (t .minute)) + length (decimal (t .metres)) + length (t .driver) + 3
-unfolding spellTrip
-spell-length t = simp length-append (omega arith)
+use Rattle.trip_list.proofs.Lines.{minuteOf, metresOf, driverOf, Texts, texts, line-length}
 
 -- a number read and printed keeps its digits past the zeros
 number-kept : (m : List ℕ) → isNumber m ≡ true → decimal (value m) ≡ drop (leadingZeros m) m

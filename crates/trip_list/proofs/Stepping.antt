@@ -1,23 +1,21 @@
 -- A line at an index of a list: what the code is told of it, and the bytes that its spelling keeps.
 use mathlib.Core.Path.{_≡_, refl, sym, ap, _∙_}
-use mathlib.Core.Bool.{Bool, true, false}
+use mathlib.Core.Bool.{true, false}
 use mathlib.Core.List.{List, _++_}
 use Prim.Native.Nat.{ℕ, _+_, _-_, _≤_, _<_}
 use native.Mathlib.Omega.{arith}
-use lib.ListN.{length, take, drop, length-append, length-drop}
+use lib.ListN.{length, take, drop, length-drop}
 use lib.Seq.{drop-drop}
 use borrow.Author.Tests.{lt-leb}
 use Rattle.answer.specs.Coded.{TRIP-FORM, TRIP-ORDER}
 use Rattle.memory.specs.Bytes.{part, overwrite}
 use Rattle.memory.proofs.Bytes.{length-part, length-overwrite, overwrite-join-at, put-copy}
 use borrow.Rule.Slice.PartMut.{putMid}
-use Rattle.text.specs.Decimal.{value}
-use Rattle.text.proofs.Decimal.{Numeral, numeral}
 use Rattle.trip_list.specs.declared.Line as line
-use Rattle.trip_list.specs.Trip.{greatestNumber, isNumber, tripOf, spellTrip}
+use Rattle.trip_list.specs.Trip.{greatestNumber, tripOf}
 use Rattle.trip_list.specs.Lines.{hasLine, firstTrip, lineLength, driverStart}
-use Rattle.trip_list.specs.Scanner.{LineFields, LineRead, LineAt, Stopped, tripAt, spelledLine}
-use Rattle.trip_list.proofs.Lines.{minuteOf, metresOf, driverOf, Texts, texts, line-driver}
+use Rattle.trip_list.specs.Scanner.{LineRead, LineAt, Stopped, tripAt, spelledLine}
+use Rattle.trip_list.proofs.Lines.{number-small, minuteOf, metresOf, driverOf, texts, line-driver}
 use Rattle.trip_list.proofs.Parsing.{line-some, line-within, from-malformed, from-falling}
 use Rattle.trip_list.proofs.Spelling.{minute-zeros, metres-zeros, minuteZeros, metresZeros, parts-length, spell-shorter, kept-parts}
 
@@ -52,9 +50,6 @@ module _ (list : List ℕ) (at least : ℕ) (inside : at < length list) (u : Lis
 first-driver : (s : List ℕ) → length (firstTrip s .driver) ≡ length (driverOf s)
 unfolding firstTrip tripOf
 first-driver s = refl
-
-number-small : (m : List ℕ) → isNumber m ≡ true → value m ≤ greatestNumber
-number-small m e = numeral 10 greatestNumber m e .small
 
 pub first-small : (s : List ℕ) → hasLine s ≡ true → (firstTrip s .minute ≤ greatestNumber) × (firstTrip s .metres ≤ greatestNumber)
 unfolding firstTrip tripOf

@@ -1,7 +1,7 @@
 -- A walk over a list, line after line: what the code's loops have shown so far, and what they give at the end.
 use mathlib.Core.Path.{_≡_, refl, sym, ap, _∙_}
-use mathlib.Core.Bool.{Bool, true, false, cond, false≢true}
-use mathlib.Core.List.{List, [], _∷_, _++_, append-assoc, append-nil, map}
+use mathlib.Core.Bool.{true, false, cond, false≢true}
+use mathlib.Core.List.{List, [], _∷_, _++_, append-assoc, append-nil}
 use mathlib.Core.Logic.{_≢_}
 use Prim.Native.Nat.{ℕ, zero, suc, _+_, _-_, _≤_, _<_}
 use native.Mathlib.Omega.{arith}
@@ -27,14 +27,15 @@ use Rattle.trip_list.specs.declared.Line as line
 use Rattle.trip_list.specs.Trip.{Trip, trip, spellTrip, spell, tripOf}
 use Rattle.trip_list.specs.List.{Parsed, trips, refusal, before, parseFrom, parse, tripsOf, greatestList, answerOf, listAnswer, spelling, writeAnswer, written}
 use Rattle.trip_list.specs.Lines.{hasLine, firstTrip, lineLength, driverStart, lineStart}
-use Rattle.trip_list.specs.Lookup.{Located, located, Given, given, inList, readTrip, lineTests, nextAnswer, nextTrip}
+use Rattle.trip_list.specs.Lookup.{located, given, inList, readTrip, lineTests, nextAnswer, nextTrip}
 use Rattle.trip_list.specs.declared.Step.{Step}
 use Rattle.trip_list.specs.declared.Step.the-variants.{At, Refused}
-use Rattle.trip_list.specs.Scanner.{LineFields, LineAt, Stopped, Stepped, tripAt, spelledLine, Surveyed, Spelled}
-use Rattle.trip_list.proofs.Lines.{lineOf, minuteOf, metresOf, driverOf, Texts, texts, line-driver}
+use Rattle.trip_list.specs.Scanner.{LineAt, Stopped, Stepped, tripAt, spelledLine, Surveyed, Spelled}
+use Rattle.trip_list.proofs.Lines.{minuteOf, metresOf, driverOf, texts, line-driver}
 use Rattle.trip_list.proofs.Claims.{never-longer}
-use Rattle.trip_list.proofs.Parsing.{Accepted, line-some, line-within, from-end, from-next, First, parsed-first, accepted-trips, list-parsed, list-range, list-count}
-use Rattle.trip_list.proofs.Spelling.{spell-shorter, spell-same}
+use Rattle.trip_list.proofs.Parsing.{Accepted, line-some, line-within, from-end, from-next, parsed-first, accepted-trips, list-parsed, list-range, list-count}
+use Rattle.trip_list.proofs.Spelling.{spell-shorter}
+use Rattle.trip_list.proofs.Stepping.{line-inside}
 
 refused-done : {A : Type 0} (r : Refusal) (n : ℕ) → codedRefusal r ≡ done n → A
 refused-done r n e = absurd (false≢true (sym (refusal-number r) ∙ ap (λ (a : Coded). eqb (a .number) 0) e))
@@ -99,9 +100,6 @@ module _ (list : List ℕ) (at least count : ℕ) (w : Walked list at least coun
     unfolding spelledLine
     spelled-shorter = omega (arith, spell-shorter s (a .form), a .read .size)
 
-    pub next-within : at + l .length ≤ length list
-    next-within = omega (arith, line-within s (a .form), a .read .size, length-drop at list)
-
     pub next-after : at < at + l .length
     next-after = omega (arith, line-some s, a .read .size)
 
@@ -122,7 +120,7 @@ module _ (list : List ℕ) (at least count : ℕ) (w : Walked list at least coun
           counted = omega (arith, length-append (w .passed) (firstTrip s ∷ []), w .counted);
           shorter = omega (arith, more, w .shorter, spelled-shorter);
           starts = rw (add-one count) (omega (arith, start-next count list, w .starts, ap (λ (k : ℕ). lineLength (drop k list)) (w .starts), n));
-          within = next-within;
+          within = line-inside list at l a;
           few = omega (arith, w .few, next-after);
         }
 
@@ -168,7 +166,7 @@ module _ (list : List ℕ) (at least end : ℕ) (xs ys : List ℕ) (w : Laid lis
     pub laid-room : length list ≤ length xs → end + length (spelledLine list at) ≤ length ys
     laid-room h =
         omega
-        (arith, laid-length, w .ends, w .walked .shorter, spelled-shorter list at least (w .count) (w .walked) inside l a, next-within list at least (w .count) (w .walked) inside l a)
+        (arith, laid-length, w .ends, w .walked .shorter, spelled-shorter list at least (w .count) (w .walked) inside l a, line-inside list at l a)
 
     pub laid-next : least ≤ l .minute → (e : ℕ) (zs : List ℕ) → zs ≡ overwrite ys end (spelledLine list at) → e ≡ end + length (spelledLine list at)
         → Laid list (at + l .length) (l .minute + 1) e xs zs

@@ -1,6 +1,6 @@
 -- A list by its texts: each line is three texts with commas between them and LF at the end.
 use mathlib.Core.Bool.{Bool, true, _&&_}
-use mathlib.Core.List.{List, [], _∷_, _++_, map}
+use mathlib.Core.List.{List, [], _∷_, _++_}
 use Prim.Native.Nat.{ℕ, _+_}
 use lib.Dec.{leb}
 use Rattle.text.specs.Decimal.{value}

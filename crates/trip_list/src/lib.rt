@@ -18,7 +18,7 @@ ghost use Rattle.trip_list.specs.Lookup.{looked, readTrip, nextTrip};
 ghost use Rattle.trip_list.specs.Scanner.{NumberRead, DriverRead, LineRead, Stepped, LineAt, tripAt, spelledLine, Surveyed, Spelled};
 
 // The longest list.
-pub const MAX_LIST: usize = 4096;
+const MAX_LIST: usize = 4096;
 
 // The greatest minute and the most metres.
 const MAX_NUMBER: usize = 4294967295;

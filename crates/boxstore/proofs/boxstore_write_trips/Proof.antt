@@ -1,5 +1,5 @@
 -- `boxstore::boxstore_write_trips` meets its contract: the call of trip_list, its answer as a word.
-use mathlib.Core.Path.{_≡_, refl}
+use mathlib.Core.Path.{_≡_}
 use native.Mathlib.Omega.{arith}
 use borrow.Author.Needs.{needs}
 use Rattle.trip_list.specs.List.{greatestList}

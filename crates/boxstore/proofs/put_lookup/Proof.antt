@@ -1,11 +1,7 @@
 -- `boxstore::put_lookup` meets its contract: each case of what was read.
-use mathlib.Core.Path.{_≡_, refl, sym, ap, _∙_}
+use mathlib.Core.Path.{_≡_, refl, sym}
 use native.Mathlib.Omega.{arith}
 use borrow.Author.Needs.{needs}
-use Rattle.answer.specs.declared.Answer.the-variants as answers
-use Rattle.answer.specs.Coded.{coded}
-use Rattle.trip_list.specs.Lookup.{Given, looked}
-use Rattle.boxstore.specs.Interface.{wordOf, overNumbers}
 use Rattle.boxstore.proofs.Trips.{four, looked-of, count-fits}
 use Rattle.boxstore.proofs.put_lookup.Statement.{statement}
 use Rattle.boxstore.proofs.put_lookup.Tie as tie

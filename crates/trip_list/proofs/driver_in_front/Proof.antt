@@ -1,6 +1,6 @@
 -- `trip_list::driver_in_front` meets its contract: all bytes before i are letters or digits.
 use mathlib.Core.Path.{sym, _∙_}
-use Prim.Native.Nat.{_≤_, _-_}
+use Prim.Native.Nat.{_-_}
 use native.Mathlib.Omega.{arith}
 use lib.ListN.{length}
 use borrow.Author.Needs.{needs}

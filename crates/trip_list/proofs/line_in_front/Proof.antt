@@ -8,7 +8,7 @@ use borrow.Author.Needs.{needs}
 use Rattle.memory.specs.Bytes.{part}
 use Rattle.memory.proofs.Bytes.{rest-whole}
 use Rattle.text.proofs.Decimal.{zeros-within}
-use Rattle.trip_list.proofs.Scanning.{no-minute, second-within, first-digits, no-metres, second-digits, third-within, no-driver, end-within, line-found, line-false}
+use Rattle.trip_list.proofs.Scanning.{no-minute, second-within, no-metres, second-digits, third-within, no-driver, end-within, line-found, line-false}
 use Rattle.trip_list.proofs.line_in_front.Statement.{statement}
 use Rattle.trip_list.proofs.line_in_front.Tie as tie
 

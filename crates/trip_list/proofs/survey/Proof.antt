@@ -1,6 +1,6 @@
 -- `trip_list::survey` meets its contract: `count` lines stand before index `at`.
-use mathlib.Core.Path.{_≡_, refl, sym, ap, _∙_}
-use Prim.Native.Nat.{_+_, _-_, _≤_, _<_}
+use mathlib.Core.Path.{_≡_}
+use Prim.Native.Nat.{_-_, _≤_}
 use native.Mathlib.Omega.{arith}
 use lib.ListN.{length}
 use borrow.Author.Needs.{needs}
@@ -8,8 +8,8 @@ use Rattle.answer.specs.declared.Refusal.the-variants.{Range}
 use Rattle.trip_list.specs.List.{greatestList}
 use Rattle.trip_list.specs.Scanner.{LineAt}
 use Rattle.trip_list.proofs.Parsing.{list-range}
-use Rattle.trip_list.proofs.Stepping.{minute-fits}
-use Rattle.trip_list.proofs.Walking.{Walked, walked-start, walked-next, next-within, next-after, Held, held-next, step-line, step-refused, survey-refused, survey-bad, survey-done}
+use Rattle.trip_list.proofs.Stepping.{line-inside, minute-fits}
+use Rattle.trip_list.proofs.Walking.{Walked, walked-start, walked-next, next-after, Held, held-next, step-line, step-refused, survey-refused, survey-bad, survey-done}
 use Rattle.trip_list.proofs.survey.Statement.{statement}
 use Rattle.trip_list.proofs.survey.Tie as tie
 
@@ -44,7 +44,7 @@ pick-requires c κs = search needs
 add-at : tie.Need-add-at Inv-loop μ-loop
 add-at c =
     let k = c .before .before .before in
-    omega (arith, next-within _ _ _ _ (k .before .before .before .before .before .loop .inv .0) (omega arith) _ (found k .0))
+    omega (arith, line-inside _ _ _ (found k .0))
 
 add-least : tie.Need-add-least Inv-loop μ-loop
 add-least c = omega (arith, minute-fits _ _ _ (found (c .before .before .before .before) .0))
@@ -56,7 +56,7 @@ loop-less : tie.Need-loop-less Inv-loop μ-loop
 loop-less c =
     let k = c .before .before .before .before in
     let l = k .before .before .before .before .before .loop in
-    omega (arith, next-within _ _ _ _ (l .inv .0) (omega arith) _ (found k .0), next-after _ _ _ _ (l .inv .0) (omega arith) _ (found k .0))
+    omega (arith, line-inside _ _ _ (found k .0), next-after _ _ _ _ (l .inv .0) (omega arith) _ (found k .0))
 
 loop-again : tie.Need-loop-again Inv-loop μ-loop
 loop-again c =

@@ -1,6 +1,5 @@
 -- `trip_list::trip_of` meets its contract: the numbers fit 32 bits, and the driver lies in the list.
 use native.Mathlib.Omega.{arith}
-use borrow.Author.Needs.{needs}
 use Rattle.trip_list.proofs.Stepping.{minute-fits, metres-fits, driver-inside, trip-found}
 use Rattle.trip_list.proofs.trip_of.Statement.{statement}
 use Rattle.trip_list.proofs.trip_of.Tie as tie
