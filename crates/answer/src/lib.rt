@@ -4,7 +4,7 @@
 ghost use mathlib.Core.Path.{_≡_};
 ghost use Rattle.answer.specs.Coded.{coded, codedRefusal};
 
-// The refusals, in the order in which they are tested.
+// The refusals, in the order of their numbers. A call on files tests the first nine in this order.
 pub enum Refusal {
     // The session line has none of the forms.
     Line,
@@ -18,7 +18,8 @@ pub enum Refusal {
     Down,
     // The file number is above the last file.
     NoFile,
-    // A position, a size, or a position with the length after it is above the greatest file size; or a TRIM would grow the file.
+    // A position, a size, or a position with the length after it is above the greatest file size; or a TRIM would grow the file; or a
+    // trip list is too long.
     Range,
     // The first page of a write is not cached, and no page frame is free for it.
     NoRoom,
@@ -26,7 +27,7 @@ pub enum Refusal {
     Cut(usize),
     // A line of a trip list lacks the form.
     TripForm,
-    // The minute of a trip is not above that of the line before.
+    // The minutes of a trip list do not rise at a line.
     TripOrder,
 }
 

@@ -1,4 +1,4 @@
--- Laws of printed numbers, bytes and lines: their digits, how many there are, and how they are laid over a buffer.
+-- Laws of printed numbers, bytes and lines: how they are laid over a buffer, and how long they are.
 use mathlib.Core.Path.{_≡_, refl, sym, ap, _∙_}
 use mathlib.Core.List.{List, [], _∷_, _++_}
 use Prim.Native.Nat.{ℕ, _+_, _-_, _*_, _/_, _%_, _≤_, _<_}

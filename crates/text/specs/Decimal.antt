@@ -22,18 +22,18 @@ value = valueFrom 0
 unfoldable pub isNumeral : ℕ → ℕ → List ℕ → Bool
 isNumeral most limit text = allOf (leb 1 (length text) ∷ leb (length text) most ∷ every isDigit text ∷ leb (value text) limit ∷ [])
 
--- how many zeros stand before the digits of a number, whose last digit is always kept
+-- the zeros before a number; its last digit is none of them
 abbrev pub leadingZeros : List ℕ → ℕ
 leadingZeros [] = 0
 leadingZeros (c ∷ []) = 0
 leadingZeros (c ∷ d ∷ ds) = cond (eqb c (code "0")) (suc (leadingZeros (d ∷ ds))) 0
 
--- the decimal digits of n, with no zero before them; the first number is at least how many there are
+-- the decimal digits of n, with no zero before them; k is at least their number
 abbrev pub digitsIn : ℕ → ℕ → List ℕ
 digitsIn zero n = []
 digitsIn (suc k) n = cond (ltb n 10) ((code "0" + n) ∷ []) (digitsIn k (n / 10) ++ ((code "0" + n % 10) ∷ []))
 
--- every number of 64 bits has at most 20
+-- 20 digits serve every number below 10²⁰
 abbrev pub digitsBound : ℕ → ℕ
 digitsBound n = cond (ltb n (10 ^ 20)) 20 (suc n)
 

@@ -19,7 +19,7 @@ abbrev pub inFirst : ℕ → List (List ℕ) → List (List ℕ)
 inFirst c [] = (c ∷ []) ∷ []
 inFirst c (t ∷ ts) = (c ∷ t) ∷ ts
 
--- bytes parted at a mark; an empty rest is the texts `last`
+-- bytes parted at a mark, where the end of the bytes counts as the texts `last`
 abbrev pub partedAt : ℕ → List (List ℕ) → List ℕ → List (List ℕ)
 partedAt mark last [] = last
 partedAt mark last (c ∷ cs) = cond (isMark mark c) ([] ∷ partedAt mark last cs) (inFirst c (partedAt mark last cs))
@@ -33,6 +33,6 @@ abbrev pub restParts : ℕ → List ℕ → List (List ℕ)
 restParts mark [] = []
 restParts mark (c ∷ cs) = parts mark cs
 
--- fields are parted by commas, no quoting
+-- fields stand between commas; nothing is quoted
 abbrev pub fields : List ℕ → List (List ℕ)
 fields = parts comma

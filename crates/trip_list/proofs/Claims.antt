@@ -123,7 +123,7 @@ parse-spell ts e = spelled-parsed 0 ts e
 pub spell-accepted : (ts : List Trip) → valid ts ≡ true → length (spell ts) ≤ greatestList → listAnswer (spell ts) ≡ done (length ts)
 spell-accepted ts e fits = sym (list-parsed (spell ts) fits) ∙ ap answerOf (parse-spell ts e)
 
--- trips with rising minutes and in their limits have a spelling each
+-- no two lists of such trips are spelled alike
 pub spell-injective : (a b : List Trip) → valid a ≡ true → valid b ≡ true → spell a ≡ spell b → a ≡ b
 spell-injective a b e f q = ap tripsOf (sym (parse-spell a e) ∙ ap parse q ∙ parse-spell b f)
 

@@ -5,7 +5,7 @@ use Prim.Native.Nat.{ℕ, _+_}
 use lib.Dec.{eqb, leb}
 use lib.ListN.{length}
 use Rattle.answer.specs.Coded.{Coded, done, SHAPE, RANGE, TRIP-FORM, TRIP-ORDER}
-use Rattle.answer.specs.Admission.{firstRefusal, ifDone, test}
+use Rattle.answer.specs.Admission.{Test, firstRefusal, ifDone, test}
 use Rattle.memory.specs.Bytes.{overwrite}
 use Rattle.text.specs.Marks.{LF, parts}
 use Rattle.trip_list.specs.Trip.{Trip, hasForm, tripOf, spell, inLimits}
@@ -48,8 +48,11 @@ abbrev pub answerOf : Parsed → Coded
 answerOf (trips ts) = done (length ts)
 answerOf (refusal a) = a
 
+abbrev pub lengthTest : List ℕ → Test
+lengthTest list = test (leb (length list) greatestList) RANGE
+
 unfoldable pub listAnswer : List ℕ → Coded
-listAnswer list = firstRefusal (test (leb (length list) greatestList) RANGE ∷ []) (answerOf (parse list))
+listAnswer list = firstRefusal (lengthTest list ∷ []) (answerOf (parse list))
 
 -- ---- the writer: the one spelling at the front of a buffer
 
@@ -63,7 +66,7 @@ writeAnswer list buffer =
 unfoldable pub written : List ℕ → List ℕ → List ℕ
 written list buffer = ifDone (writeAnswer list buffer) (overwrite buffer 0 (spelling list)) buffer
 
--- ---- trips that have a spelling: each within its limits, minutes that rise, the first at least `least`
+-- ---- trips that a list can mean: each within its limits, minutes that rise, the first at least `least`
 
 abbrev pub validFrom : ℕ → List Trip → Bool
 validFrom least [] = true

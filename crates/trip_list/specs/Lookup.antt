@@ -4,7 +4,7 @@ use mathlib.Core.List.{List, [], _∷_, map}
 use Prim.Native.Nat.{ℕ, _+_}
 use lib.Dec.{ltb, leb}
 use lib.ListN.{length, take, drop}
-use Rattle.answer.specs.Coded.{Coded, done, codedRefusal, RANGE, TRIP-FORM, TRIP-ORDER}
+use Rattle.answer.specs.Coded.{Coded, done, codedRefusal, TRIP-FORM, TRIP-ORDER}
 use Rattle.answer.specs.Admission.{Test, firstRefusal, ifDone, test}
 use Rattle.memory.specs.Bytes.{part}
 use Rattle.trip_list.specs.declared.Trip as code
@@ -12,7 +12,7 @@ use Rattle.trip_list.specs.declared.Lookup.{Lookup}
 use Rattle.trip_list.specs.declared.Lookup.the-variants.{Found, None, Refused}
 use Rattle.trip_list.specs.Trip.{Trip, trip}
 use Rattle.trip_list.specs.Lines.{hasLine, firstTrip, lineLength, driverStart, lineStart}
-use Rattle.trip_list.specs.List.{parse, tripsOf, greatestList, listAnswer}
+use Rattle.trip_list.specs.List.{parse, tripsOf, lengthTest, listAnswer}
 
 -- a trip, and where its driver lies in the list: from an index on, so many bytes
 pub record Located : Type 0 where
@@ -40,7 +40,7 @@ looked list (Found n t) = given (done n) (inList list t ∷ [])
 looked list (None n) = given (done n) []
 looked list (Refused r) = given (codedRefusal r) []
 
--- ---- the reader: the trip at a place, and as count the number of trips
+-- ---- the reader: a trip by its place; it counts the trips
 
 unfoldable pub readTrip : List ℕ → ℕ → Given
 readTrip list place =
@@ -48,7 +48,7 @@ readTrip list place =
     given (listAnswer list)
     (ifDone (listAnswer list) (map (λ (t : Trip). located t (at + driverStart (drop at list))) (take 1 (drop place (tripsOf (parse list))))) [])
 
--- ---- the cursor: the trip of the line that starts at an index, and as count the index after that line; at the end of the list 0
+-- ---- the cursor: a trip by the index at which its line starts; the count is the index after that line, and 0 at the end of the list
 
 -- a line in front, with a minute of at least `least`
 abbrev pub lineTests : ℕ → List ℕ → List Test
@@ -57,7 +57,7 @@ lineTests least s = test (hasLine s) TRIP-FORM ∷ test (leb least (firstTrip s 
 unfoldable pub nextAnswer : List ℕ → ℕ → ℕ → Coded
 nextAnswer list at least =
     let s = drop at list in
-    firstRefusal (test (leb (length list) greatestList) RANGE ∷ [])
+    firstRefusal (lengthTest list ∷ [])
     (cond (ltb at (length list)) (firstRefusal (lineTests least s) (done (at + lineLength s))) (done 0))
 
 unfoldable pub nextTrip : List ℕ → ℕ → ℕ → Given

@@ -22,18 +22,18 @@ trip minute metres driver = record { minute = minute; metres = metres; driver = 
 abbrev pub greatestNumber : ℕ
 greatestNumber = 4294967295
 
--- minute and metres: 1 to 10 digits
+-- minutes and metres
 abbrev pub isNumber : List ℕ → Bool
 isNumber = isNumeral 10 greatestNumber
 
--- driver: 1 to 16 of A to Z and 0 to 9
+-- drivers: capital letters and digits, at least one and at most sixteen
 unfoldable pub isDriverByte : ℕ → Bool
 isDriverByte c = isDigit c || (leb (code "A") c && leb c (code "Z"))
 
 unfoldable pub isDriver : List ℕ → Bool
 isDriver text = allOf (leb 1 (length text) ∷ leb (length text) 16 ∷ every isDriverByte text ∷ [])
 
--- ---- the line `minute,metres,driver`, without its LF
+-- ---- a line, without its LF: three fields
 
 abbrev pub field : ℕ → List ℕ → List ℕ
 field k line = getD (fields line) k []

@@ -1,4 +1,4 @@
-// Trip lists: lines `minute,metres,driver`, each ended by LF, whose minutes rise. A reader, a writer, and a cursor.
+// Trip lists: a line of text for each trip, in the order of their minutes. A reader, a writer, and a cursor.
 //
 // Nothing here knows of the store: a list is bytes, wherever they come from.
 use answer::Answer;
@@ -83,7 +83,7 @@ fn number_in_front(text: &[u8]) -> Number
     }
 }
 
-// How many of the first digits are zeros before the others.
+// The leading zeros of so many digits. The last digit is none of them.
 fn leading_zeros(text: &[u8], digits: usize) -> usize
     requires { ⌜ digits ≤ length (now text) ⌝ }
     ensures { λ r. ⌜ r ≡ leadingZeros (take digits (now (text .entry))) ⌝ }
@@ -148,17 +148,20 @@ fn driver_in_front(text: &[u8]) -> Driver
 
 // ---- one line
 
-// The line in front of a text. Where it has the form: its numbers; where the digits of its minute begin that a spelling keeps, where
-// its metres begin, and the digits of these that are kept; where its driver begins, and how long it is; and the length of the line.
+// The line in front of a text. The other fields tell of it where it has the form.
 struct Line {
     fits: bool,
     minute: usize,
     metres: usize,
+    // Where the minute begins without its leading zeros.
     first: usize,
+    // Where the metres begin, and where they begin without their leading zeros.
     second: usize,
     third: usize,
+    // Where the driver begins, and its length.
     driver: usize,
     letters: usize,
+    // With its LF.
     length: usize,
 }
 
@@ -223,7 +226,7 @@ fn line_at(list: &[u8], at: usize, least: usize) -> Step
 
 // ---- the cursor
 
-// A trip of a list: its driver is so many letters from an index of the list on.
+// A trip of a list. Its driver lies in the list: from this index on, so many bytes.
 pub struct Trip {
     pub minute: u32,
     pub metres: u32,
@@ -326,7 +329,7 @@ fn survey(list: &[u8], place: usize) -> Findings
 
 // ---- the reader
 
-// The trip at a place, from 0, or none past the last. The count is the number of trips.
+// Looks a trip up by its place, counted from 0, and counts the trips.
 pub fn read(list: &[u8], place: usize) -> Lookup
     ensures { λ r. ⌜ looked (now (list .entry)) r ≡ readTrip (now (list .entry)) place ⌝ }
 {
@@ -384,8 +387,8 @@ fn spell_lines(list: &[u8], output: &mut [u8]) -> Answer
     Answer::Done(end)
 }
 
-// The list in its one spelling, at the front of a buffer of 4,096 bytes. The count is the number of its bytes. It is spelled into an
-// array first, since a bad line must leave the buffer as it came.
+// Writes the one spelling of a list to the front of a buffer of 4,096 bytes, and counts its bytes. It is spelled into an array
+// first: a bad line must leave the buffer as it came.
 pub fn write(list: &[u8], buffer: &mut [u8]) -> Answer
     ensures { λ r. ⌜ (coded r ≡ writeAnswer (now (list .entry)) (now (buffer .entry)))
         × (now (buffer .exit) ≡ written (now (list .entry)) (now (buffer .entry))) ⌝ }
