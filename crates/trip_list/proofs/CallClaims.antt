@@ -1,26 +1,29 @@
--- What holds of the calls: the reader, the answers and the writer.
+-- What holds of the calls: the reader, the answers, the refusals, the cursor and the writer.
 use mathlib.Core.Path.{_≡_, refl, sym, ap, _∙_}
-use mathlib.Core.Bool.{true}
-use mathlib.Core.List.{List, [], _∷_, _++_}
-use mathlib.Core.Logic.{_≢_, _↔_}
-use Prim.Native.Nat.{ℕ, _+_, _≤_, _<_}
+use mathlib.Core.Bool.{true, false}
+use mathlib.Core.List.{List, [], _∷_, _++_, map, append-assoc, append-nil}
+use mathlib.Core.Logic.{_≢_, _↔_, _⊎_, inl, inr, ⊎-elim}
+use Prim.Native.Nat.{ℕ, zero, suc, _+_, _≤_, _<_}
 use native.Mathlib.Omega.{arith}
+use native.Mathlib.Nat.{not-suc-le-zero}
 use lib.ListN.{length, getD, take, drop, length-drop, length-map, drop-of-length-le}
 use lib.Seq.{drop-cons, drop-drop, take-at, drop-at}
-use borrow.Author.Tests.{eq-eqb, ne-eqb}
-use Rattle.answer.specs.Coded.{Coded, done, SHAPE, RANGE}
+use borrow.Author.Tests.{eq-eqb, ne-eqb, le-leb}
+use borrow.Table.Steps.{cases}
+use Rattle.answer.specs.Coded.{Coded, done, SHAPE, RANGE, TRIP-FORM, TRIP-ORDER}
 use Rattle.memory.specs.Bytes.{part}
 use Rattle.memory.proofs.Bytes.{overwrite-cut}
 use Rattle.memory.proofs.Cases.{split-eq, split-lt}
+use Rattle.text.specs.Decimal.{value}
 use Rattle.trip_list.specs.Trip.{Trip, tripOf}
-use Rattle.trip_list.specs.List.{parse, tripsOf, answerOf, listAnswer, spelling, writeAnswer, written}
+use Rattle.trip_list.specs.List.{Parsed, trips, refusal, before, parseFrom, parse, tripsOf, answerOf, listAnswer, spelling, writeAnswer, written}
 use Rattle.trip_list.specs.Lines.{hasLine, firstTrip, lineLength, driverStart, lineStart}
 use Rattle.trip_list.specs.Lookup.{Located, located, readTrip}
 use Rattle.trip_list.specs.Entries.{Entry, linesOf, entriesFrom, entryTrip}
-use Rattle.trip_list.proofs.Lines.{minuteOf, metresOf, driverOf, texts, line-driver, line-length}
-use Rattle.trip_list.proofs.Parsing.{line-within, list-parsed, list-range, accepted, accepted-short, accepted-trips}
-use Rattle.trip_list.proofs.Claims.{entries-accepted, accepted-entries, never-longer}
-use Rattle.trip_list.proofs.Walking.{place-line, driver-part, write-shape}
+use Rattle.trip_list.proofs.Lines.{lineOf, minuteOf, metresOf, driverOf, texts, line-has, line-trip, line-driver, line-length}
+use Rattle.trip_list.proofs.Parsing.{Accepted, line-some, line-within, from-malformed, from-falling, list-parsed, list-range, accepted, accepted-short, accepted-trips}
+use Rattle.trip_list.proofs.Claims.{no-bytes, line-parsed, first-entry, entries-accepted, accepted-entries, never-longer}
+use Rattle.trip_list.proofs.Walking.{beforeAll, before-refused, place-line, driver-part, write-shape}
 
 -- ---- the reader
 
@@ -110,6 +113,166 @@ done-entries list n e =
     let short : length (linesOf (x .entries)) ≤ 4096 = omega (arith, accepted-short list n e, ap length (x .whole)) in
     let count : length (x .entries) ≡ n = sym (length-map (x .entries) entryTrip) ∙ ap length (x .meaning) ∙ accepted-trips list n e in
     (x .entries, x .form, short, count, x .whole)
+
+-- ---- which lists are refused, and how
+
+-- lines of the form with rising minutes, then bytes that do not begin with a line
+pub record BadForm (list : List ℕ) : Type 0 where
+  pub entries : List Entry
+  pub rest : List ℕ
+  pub form : entriesFrom 0 entries ≡ true
+  pub whole : list ≡ linesOf entries ++ rest
+  pub some : 0 < length rest
+  pub bad : hasLine rest ≡ false
+
+-- such lines, then a line of the form whose minute is not above that of the last, then any bytes
+pub record BadOrder (list : List ℕ) : Type 0 where
+  pub entries : List Entry
+  pub last : Entry
+  pub next : Entry
+  pub rest : List ℕ
+  pub form : entriesFrom 0 (entries ++ (last ∷ [])) ≡ true
+  pub next-form : entriesFrom 0 (next ∷ []) ≡ true
+  pub falls : value (next .minute) ≤ value (last .minute)
+  pub whole : list ≡ linesOf (entries ++ (last ∷ [])) ++ (linesOf (next ∷ []) ++ rest)
+
+-- the least minute after these lines
+abbrev leastAfter : ℕ → List Entry → ℕ
+leastAfter least [] = least
+leastAfter least (e ∷ es) = leastAfter (value (e .minute) + 1) es
+
+after-last : (least : ℕ) (es : List Entry) (e : Entry) → leastAfter least (es ++ (e ∷ [])) ≡ value (e .minute) + 1
+after-last least [] e = refl
+after-last least (x ∷ xs) e = after-last (value (x .minute) + 1) xs e
+
+line-then : (e : Entry) (es : List Entry) (r : List ℕ) → linesOf (e ∷ es) ++ r ≡ lineOf (e .minute) (e .metres) (e .driver) (linesOf es ++ r)
+line-then e es r = simp append-assoc
+
+entries-then : (least : ℕ) (es : List Entry) (r : List ℕ) → entriesFrom least es ≡ true
+    → parseFrom least (linesOf es ++ r) ≡ beforeAll (map entryTrip es) (parseFrom (leastAfter least es) r)
+entries-then least [] r q = refl
+entries-then least (e ∷ es) r q =
+    let f = first-entry least e es q in
+    ap (parseFrom least) (line-then e es r)
+    ∙ line-parsed least (e .minute) (e .metres) (e .driver) (linesOf es ++ r) (f .three) (f .rises)
+    ∙ ap (before (entryTrip e)) (entries-then (value (e .minute) + 1) es r (f .rest))
+
+-- an entry and any bytes begin with a line
+module _ (e : Entry) (r : List ℕ) (q : entriesFrom 0 (e ∷ []) ≡ true) where
+  pub entry-line : hasLine (linesOf (e ∷ []) ++ r) ≡ true
+  entry-line = ap hasLine (line-then e [] r) ∙ line-has (e .minute) (e .metres) (e .driver) r (first-entry 0 e [] q .three)
+
+  entry-trip : firstTrip (linesOf (e ∷ []) ++ r) ≡ entryTrip e
+  entry-trip = ap firstTrip (line-then e [] r) ∙ line-trip (e .minute) (e .metres) (e .driver) r (first-entry 0 e [] q .three)
+
+-- and bytes that begin with a line are an entry and more
+pub line-entry : (s : List ℕ) → hasLine s ≡ true
+    → (e : Entry) × (r : List ℕ) × (entriesFrom 0 (e ∷ []) ≡ true) × (s ≡ linesOf (e ∷ []) ++ r) × (firstTrip s ≡ entryTrip e) × (r ≡ drop (lineLength s) s)
+unfolding firstTrip tripOf
+line-entry s form =
+    let t = texts s form in
+    let e : Entry = record { minute = minuteOf s; metres = metresOf s; driver = driverOf s } in
+    let r = drop (lineLength s) s in
+    (e, r, rw (t .three .minute, t .three .metres, t .three .driver, le-leb 0 (value (minuteOf s)) (omega arith)), t .whole ∙ sym (line-then e [] r), refl, refl)
+
+module _ (list : List ℕ) where
+  -- the first is refused with TRIP-FORM
+  pub form-refused : BadForm list → parse list ≡ refusal TRIP-FORM
+  unfolding parse
+  form-refused b =
+      let ts = map entryTrip (b .entries) in
+      ap (parseFrom 0) (b .whole)
+      ∙ entries-then 0 (b .entries) (b .rest) (b .form)
+      ∙ ap (beforeAll ts) (from-malformed (leastAfter 0 (b .entries)) (b .rest) (b .some) (b .bad))
+      ∙ before-refused ts TRIP-FORM
+
+  -- the second with TRIP-ORDER
+  pub order-refused : BadOrder list → parse list ≡ refusal TRIP-ORDER
+  unfolding parse
+  order-refused b =
+      let es = b .entries ++ (b .last ∷ []) in
+      let ts = map entryTrip es in
+      let s = linesOf (b .next ∷ []) ++ b .rest in
+      let form = entry-line (b .next) (b .rest) (b .next-form) in
+      let some : 0 < length s = omega (arith, line-some s, line-within s form) in
+      let minute : firstTrip s .minute ≡ value (b .next .minute) = ap (λ (t : Trip). t .minute) (entry-trip (b .next) (b .rest) (b .next-form)) in
+      let low : firstTrip s .minute < leastAfter 0 es = omega (arith, minute, after-last 0 (b .entries) (b .last), b .falls) in
+      ap (parseFrom 0) (b .whole)
+      ∙ entries-then 0 es s (b .form)
+      ∙ ap (beforeAll ts) (from-falling (leastAfter 0 es) s some form low)
+      ∙ before-refused ts TRIP-ORDER
+
+-- the lines of the form in front, as long as their minutes rise, and what stops them
+record Reached (least : ℕ) (s : List ℕ) : Type 0 where
+  entries : List Entry
+  rest : List ℕ
+  form : entriesFrom least entries ≡ true
+  whole : s ≡ linesOf entries ++ rest
+  stop : (length rest ≡ 0) ⊎ (((0 < length rest) × (hasLine rest ≡ false)) ⊎ ((hasLine rest ≡ true) × (firstTrip rest .minute < leastAfter least entries)))
+
+reached : (fuel least : ℕ) (s : List ℕ) → length s ≤ fuel → Reached least s
+unfolding firstTrip tripOf
+reached zero least s short = record { entries = []; rest = s; form = refl; whole = refl; stop = inl (omega arith) }
+reached (suc fuel) least s short =
+    split-lt 0 (length s)
+    (λ some. cases (hasLine s)
+    (λ has.
+    let t = texts s has in
+    let e : Entry = record { minute = minuteOf s; metres = metresOf s; driver = driverOf s } in
+    let rest = drop (lineLength s) s in
+    split-lt (firstTrip s .minute) least
+    (λ low. record { entries = []; rest = s; form = refl; whole = refl; stop = inr (inr (has, low)) })
+    (λ up.
+    let r = reached fuel (value (minuteOf s) + 1) rest (omega (arith, length-drop (lineLength s) s, line-some s)) in
+    record {
+      entries = e ∷ r .entries;
+      rest = r .rest;
+      form = rw (t .three .minute, t .three .metres, t .three .driver, le-leb _ _ up) (r .form);
+      whole = t .whole ∙ ap (λ (l : List ℕ). lineOf (minuteOf s) (metresOf s) (driverOf s) l) (r .whole) ∙ sym (line-then e (r .entries) (r .rest));
+      stop = r .stop;
+    }))
+    (λ no. record { entries = []; rest = s; form = refl; whole = refl; stop = inr (inl (some, no)) }))
+    (λ none. record { entries = []; rest = s; form = refl; whole = refl; stop = inl (omega arith) })
+
+-- all but the last, and the last
+split-last : (e : Entry) (es : List Entry) → (first : List Entry) × (last : Entry) × (e ∷ es ≡ first ++ (last ∷ []))
+split-last e [] = ([], e, refl)
+split-last e (x ∷ xs) = let r = split-last x xs in (e ∷ r .0, r .1, ap (λ (l : List Entry). e ∷ l) (r .2))
+
+module _ (list rest : List ℕ) where
+  order-at : (es : List Entry) → entriesFrom 0 es ≡ true → list ≡ linesOf es ++ rest → hasLine rest ≡ true → firstTrip rest .minute < leastAfter 0 es → BadOrder list
+  order-at [] form whole has low = absurd (not-suc-le-zero low)
+  order-at (e ∷ es) form whole has low =
+      let p = split-last e es in
+      let l = line-entry rest has in
+      let after : leastAfter 0 (e ∷ es) ≡ value (p .1 .minute) + 1 = ap (leastAfter 0) (p .2) ∙ after-last 0 (p .0) (p .1) in
+      let minute : firstTrip rest .minute ≡ value (l .0 .minute) = ap (λ (t : Trip). t .minute) (l .4) in
+      record {
+        entries = p .0;
+        last = p .1;
+        next = l .0;
+        rest = l .1;
+        form = ap (entriesFrom 0) (sym (p .2)) ∙ form;
+        next-form = l .2;
+        falls = omega (arith, low, after, minute);
+        whole = whole ∙ ap (λ (x : List ℕ). linesOf (e ∷ es) ++ x) (l .3) ∙ ap (λ (xs : List Entry). linesOf xs ++ (linesOf (l .0 ∷ []) ++ l .1)) (p .2);
+      }
+
+-- every list is accepted or one of these two
+pub every-list : (list : List ℕ) → Accepted list ⊎ (BadForm list ⊎ BadOrder list)
+unfolding parse
+every-list list =
+    let r = reached (length list) 0 list (omega arith) in
+    ⊎-elim
+    (λ none.
+    let whole : list ≡ linesOf (r .entries) = r .whole ∙ ap (λ (x : List ℕ). linesOf (r .entries) ++ x) (no-bytes (r .rest) none) ∙ append-nil (linesOf (r .entries)) in
+    let q : parseFrom 0 list ≡ trips (map entryTrip (r .entries)) = ap (parseFrom 0) whole ∙ entries-accepted 0 (r .entries) (r .form) in
+    inl (q ∙ ap (λ (p : Parsed). trips (tripsOf p)) (sym q)))
+    (λ s. inr (⊎-elim
+    (λ b. inl (record { entries = r .entries; rest = r .rest; form = r .form; whole = r .whole; some = b .0; bad = b .1 }))
+    (λ b. inr (order-at list (r .rest) (r .entries) (r .form) (r .whole) (b .0) (b .1)))
+    s))
+    (r .stop)
 
 -- ---- the writer
 

@@ -25,7 +25,7 @@ use Rattle.trip_list.proofs.Spelling.{spell-shorter, spell-same}
 
 -- ---- which lists are accepted: lines of three texts of the form, with rising minutes, and no others
 
-line-parsed : (least : ℕ) (m k d r : List ℕ) → Three m k d → least ≤ value m
+pub line-parsed : (least : ℕ) (m k d r : List ℕ) → Three m k d → least ≤ value m
     → parseFrom least (lineOf m k d r) ≡ before (trip (value m) (value k) d) (parseFrom (value m + 1) r)
 line-parsed least m k d r t rises =
     let s = lineOf m k d r in
@@ -34,9 +34,14 @@ line-parsed least m k d r t rises =
     let up : least ≤ firstTrip s .minute = rw trip-is rises in
     from-next least s some (line-has m k d r t) up ∙ rw (trip-is, line-rest m k d r t)
 
-pub entries-accepted : (least : ℕ) (es : List Entry) → entriesFrom least es ≡ true → parseFrom least (linesOf es) ≡ trips (map entryTrip es)
-entries-accepted least [] q = from-end least [] (omega arith)
-entries-accepted least (e ∷ es) q =
+-- the first line, and the rest
+pub record FirstEntry (least : ℕ) (e : Entry) (es : List Entry) : Type 0 where
+  pub three : Three (e .minute) (e .metres) (e .driver)
+  pub rises : least ≤ value (e .minute)
+  pub rest : entriesFrom (value (e .minute) + 1) es ≡ true
+
+pub first-entry : (least : ℕ) (e : Entry) (es : List Entry) → entriesFrom least (e ∷ es) ≡ true → FirstEntry least e es
+first-entry least e es q =
     let a = isNumber (e .minute) in
     let b = isNumber (e .metres) in
     let c = isDriver (e .driver) in
@@ -45,10 +50,18 @@ entries-accepted least (e ∷ es) q =
     let q1 = and-right a (b && (c && (l && rest))) q in
     let q2 = and-right b (c && (l && rest)) q1 in
     let q3 = and-right c (l && rest) q2 in
-    let three : Three (e .minute) (e .metres) (e .driver) =
-    record { minute = and-left a (b && (c && (l && rest))) q; metres = and-left b (c && (l && rest)) q1; driver = and-left c (l && rest) q2 } in
-    line-parsed least (e .minute) (e .metres) (e .driver) (linesOf es) three (leb-true _ _ (and-left l rest q3))
-    ∙ ap (before (entryTrip e)) (entries-accepted (value (e .minute) + 1) es (and-right l rest q3))
+    record {
+      three = record { minute = and-left a (b && (c && (l && rest))) q; metres = and-left b (c && (l && rest)) q1; driver = and-left c (l && rest) q2 };
+      rises = leb-true _ _ (and-left l rest q3);
+      rest = and-right l rest q3;
+    }
+
+pub entries-accepted : (least : ℕ) (es : List Entry) → entriesFrom least es ≡ true → parseFrom least (linesOf es) ≡ trips (map entryTrip es)
+entries-accepted least [] q = from-end least [] (omega arith)
+entries-accepted least (e ∷ es) q =
+    let f = first-entry least e es q in
+    line-parsed least (e .minute) (e .metres) (e .driver) (linesOf es) (f .three) (f .rises)
+    ∙ ap (before (entryTrip e)) (entries-accepted (value (e .minute) + 1) es (f .rest))
 
 -- an accepted list, by its texts
 pub record Entries (least : ℕ) (s : List ℕ) (ts : List Trip) : Type 0 where
@@ -57,7 +70,7 @@ pub record Entries (least : ℕ) (s : List ℕ) (ts : List Trip) : Type 0 where
   pub whole : s ≡ linesOf entries
   pub meaning : map entryTrip entries ≡ ts
 
-no-bytes : (s : List ℕ) → length s ≡ 0 → s ≡ []
+pub no-bytes : (s : List ℕ) → length s ≡ 0 → s ≡ []
 no-bytes [] h = refl
 no-bytes (x ∷ xs) h = absurd (omega arith)
 
