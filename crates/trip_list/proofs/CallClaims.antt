@@ -6,9 +6,10 @@ use mathlib.Core.Logic.{_≢_, _↔_, _⊎_, inl, inr, ⊎-elim}
 use Prim.Native.Nat.{ℕ, zero, suc, _+_, _≤_, _<_}
 use native.Mathlib.Omega.{arith}
 use native.Mathlib.Nat.{not-suc-le-zero}
-use lib.ListN.{length, getD, take, drop, length-drop, length-map, drop-of-length-le}
+use native.Mathlib.Numerals.{add-one}
+use lib.ListN.{length, getD, take, drop, length-append, length-drop, length-map, drop-of-length-le}
 use lib.Seq.{drop-cons, drop-drop, take-at, drop-at}
-use borrow.Author.Tests.{eq-eqb, ne-eqb, le-leb}
+use borrow.Author.Tests.{eq-eqb, ne-eqb, lt-ltb, le-leb, lt-leb}
 use borrow.Table.Steps.{cases}
 use Rattle.answer.specs.Coded.{Coded, done, SHAPE, RANGE, TRIP-FORM, TRIP-ORDER}
 use Rattle.memory.specs.Bytes.{part}
@@ -18,12 +19,13 @@ use Rattle.text.specs.Decimal.{value}
 use Rattle.trip_list.specs.Trip.{Trip, tripOf}
 use Rattle.trip_list.specs.List.{Parsed, trips, refusal, before, parseFrom, parse, tripsOf, answerOf, listAnswer, spelling, writeAnswer, written}
 use Rattle.trip_list.specs.Lines.{hasLine, firstTrip, lineLength, driverStart, lineStart}
-use Rattle.trip_list.specs.Lookup.{Located, located, readTrip}
+use Rattle.trip_list.specs.Lookup.{Located, located, given, readTrip, nextAnswer, nextTrip}
+use Rattle.trip_list.specs.Walk.{walkOf, onward, walk, wholeWalk, walkParsed}
 use Rattle.trip_list.specs.Entries.{Entry, linesOf, entriesFrom, entryTrip}
-use Rattle.trip_list.proofs.Lines.{lineOf, minuteOf, metresOf, driverOf, texts, line-has, line-trip, line-driver, line-length}
+use Rattle.trip_list.proofs.Lines.{lineOf, minuteOf, metresOf, driverOf, texts, line-has, line-trip, line-driver, line-length, line-rest}
 use Rattle.trip_list.proofs.Parsing.{Accepted, line-some, line-within, from-malformed, from-falling, list-parsed, list-range, accepted, accepted-short, accepted-trips}
 use Rattle.trip_list.proofs.Claims.{no-bytes, line-parsed, first-entry, entries-accepted, accepted-entries, never-longer}
-use Rattle.trip_list.proofs.Walking.{beforeAll, before-refused, place-line, driver-part, write-shape}
+use Rattle.trip_list.proofs.Walking.{beforeAll, before-refused, place-line, driver-part, next-range, next-end, write-shape}
 
 -- ---- the reader
 
@@ -231,7 +233,7 @@ reached (suc fuel) least s short =
       whole = t .whole ∙ ap (λ (l : List ℕ). lineOf (minuteOf s) (metresOf s) (driverOf s) l) (r .whole) ∙ sym (line-then e (r .entries) (r .rest));
       stop = r .stop;
     }))
-    (λ no. record { entries = []; rest = s; form = refl; whole = refl; stop = inr (inl (some, no)) }))
+    (λ bad. record { entries = []; rest = s; form = refl; whole = refl; stop = inr (inl (some, bad)) }))
     (λ none. record { entries = []; rest = s; form = refl; whole = refl; stop = inl (omega arith) })
 
 -- all but the last, and the last
@@ -273,6 +275,113 @@ every-list list =
     (λ b. inr (order-at list (r .rest) (r .entries) (r .form) (r .whole) (b .0) (b .1)))
     s))
     (r .stop)
+
+-- ---- the cursor
+
+few-lines : (es : List Entry) → length es ≤ length (linesOf es)
+few-lines [] = omega arith
+few-lines (e ∷ es) =
+    let l : length (linesOf (e ∷ es)) ≡ length (e .minute) + length (e .metres) + length (e .driver) + 3 + length (linesOf es) = simp length-append (omega arith) in
+    omega (arith, few-lines es)
+
+module _ (list : List ℕ) (short : length list ≤ 4096) where
+  module _ (at least : ℕ) where
+    abbrev s : List ℕ
+    s = drop at list
+
+    module _ (inside : at < length list) where
+      next-line : hasLine s ≡ true → least ≤ firstTrip s .minute
+          → nextTrip list at least ≡ given (done (at + lineLength s)) (located (firstTrip s) (at + driverStart s) ∷ [])
+      unfolding nextTrip nextAnswer
+      next-line has up =
+          let some : 0 < at + lineLength s = omega (arith, line-some s) in
+          rw (le-leb _ _ short, lt-ltb _ _ inside, has, le-leb _ _ up, lt-ltb _ _ some)
+
+      next-malformed : hasLine s ≡ false → nextTrip list at least ≡ given TRIP-FORM []
+      unfolding nextTrip nextAnswer
+      next-malformed bad = rw (le-leb _ _ short, lt-ltb _ _ inside, bad)
+
+      next-falling : hasLine s ≡ true → firstTrip s .minute < least → nextTrip list at least ≡ given TRIP-ORDER []
+      unfolding nextTrip nextAnswer
+      next-falling has low = rw (le-leb _ _ short, lt-ltb _ _ inside, has, lt-leb _ _ low)
+
+  -- where these bytes are the rest of the list, the cursor stops
+  abbrev Stops : ℕ → List ℕ → Coded → Type 0
+  Stops least r a = (at : ℕ) → drop at list ≡ r → nextTrip list at least ≡ given a []
+
+  some-left : (at : ℕ) (r : List ℕ) → drop at list ≡ r → 0 < length r → at < length list
+  some-left at r q h = omega (arith, length-drop at list, ap length q)
+
+  walk-entries : (es : List Entry) (steps at least : ℕ) (r : List ℕ) (a : Coded) → drop at list ≡ linesOf es ++ r → entriesFrom least es ≡ true
+      → length es < steps → Stops (leastAfter least es) r a → walk steps list at least ≡ walkOf (map entryTrip es) a
+  walk-entries es zero at least r a q form few stops = absurd (not-suc-le-zero few)
+  walk-entries [] (suc steps) at least r a q form few stops = rw (stops at q)
+  walk-entries (e ∷ es) (suc steps) at least r a q form few stops =
+      let f = first-entry least e es form in
+      let m = e .minute in
+      let k = e .metres in
+      let d = e .driver in
+      let more = linesOf es ++ r in
+      let whole : drop at list ≡ lineOf m k d more = q ∙ line-then e es r in
+      let has : hasLine (drop at list) ≡ true = ap hasLine whole ∙ line-has m k d more (f .three) in
+      let is : firstTrip (drop at list) ≡ entryTrip e = ap firstTrip whole ∙ line-trip m k d more (f .three) in
+      let up : least ≤ firstTrip (drop at list) .minute = omega (arith, f .rises, ap (λ (t : Trip). t .minute) is) in
+      let inside = some-left at (drop at list) refl (omega (arith, line-some (drop at list), line-within (drop at list) has)) in
+      let n = lineLength (drop at list) in
+      let rest : drop (at + n) list ≡ more = sym (drop-drop n at list) ∙ ap (λ (x : List ℕ). drop (lineLength x) x) whole ∙ line-rest m k d more (f .three) in
+      rw (next-line at least inside has up, is)
+      (ap (onward (entryTrip e)) (walk-entries es steps (at + n) (value m + 1) r a rest (f .rest) (omega arith) stops))
+
+  whole-walk : (es : List Entry) (r : List ℕ) (a : Coded) → list ≡ linesOf es ++ r → entriesFrom 0 es ≡ true → Stops (leastAfter 0 es) r a
+      → wholeWalk list ≡ walkOf (map entryTrip es) a
+  unfolding wholeWalk
+  whole-walk es r a q form stops =
+      walk-entries es (length list + 1) 0 0 r a q form (omega (arith, few-lines es, ap length q, length-append (linesOf es) r)) stops
+
+  -- over an accepted list it gives the trips, and then done with count 0
+  pub walk-accepted : Accepted list → wholeWalk list ≡ walkOf (tripsOf (parse list)) (done 0)
+  unfolding parse
+  walk-accepted acc =
+      let x = accepted-entries 0 list (tripsOf (parse list)) acc in
+      let stops : Stops (leastAfter 0 (x .entries)) [] (done 0) =
+      λ at q. sym (next-end list at (leastAfter 0 (x .entries)) short (omega (arith, length-drop at list, ap length q))) in
+      whole-walk (x .entries) [] (done 0) (x .whole ∙ sym (append-nil (linesOf (x .entries)))) (x .form) stops
+      ∙ ap (λ (ts : List Trip). walkOf ts (done 0)) (x .meaning)
+
+  -- over a refused one the trips of the lines before the first bad one, and then the refusal
+  pub walk-form : (b : BadForm list) → wholeWalk list ≡ walkOf (map entryTrip (b .entries)) TRIP-FORM
+  walk-form b =
+      whole-walk (b .entries) (b .rest) TRIP-FORM (b .whole) (b .form)
+      (λ at q. next-malformed at (leastAfter 0 (b .entries)) (some-left at (b .rest) q (b .some)) (ap hasLine q ∙ b .bad))
+
+  pub walk-order : (b : BadOrder list) → wholeWalk list ≡ walkOf (map entryTrip (b .entries ++ (b .last ∷ []))) TRIP-ORDER
+  walk-order b =
+      let es = b .entries ++ (b .last ∷ []) in
+      let r = linesOf (b .next ∷ []) ++ b .rest in
+      let has = entry-line (b .next) (b .rest) (b .next-form) in
+      let minute : firstTrip r .minute ≡ value (b .next .minute) = ap (λ (t : Trip). t .minute) (entry-trip (b .next) (b .rest) (b .next-form)) in
+      whole-walk es r TRIP-ORDER (b .whole) (b .form)
+      (λ at q.
+      let inside = some-left at r q (omega (arith, line-some r, line-within r has)) in
+      let low : firstTrip (drop at list) .minute < leastAfter 0 es =
+      omega (arith, ap (λ (x : List ℕ). firstTrip x .minute) q, minute, after-last 0 (b .entries) (b .last), b .falls) in
+      next-falling at (leastAfter 0 es) inside (ap hasLine q ∙ has) low)
+
+  -- so the steps say of a list what its lines say
+  pub walk-parse : walkParsed (wholeWalk list) ≡ parse list
+  walk-parse =
+      ⊎-elim
+      (λ acc. ap walkParsed (walk-accepted acc) ∙ sym acc)
+      (λ bad. ⊎-elim
+      (λ b. ap walkParsed (walk-form b) ∙ sym (form-refused list b))
+      (λ b. ap walkParsed (walk-order b) ∙ sym (order-refused list b))
+      bad)
+      (every-list list)
+
+-- a list of more than 4,096 bytes is refused at the first step
+pub walk-long : (list : List ℕ) → 4096 < length list → wholeWalk list ≡ walkOf [] RANGE
+unfolding wholeWalk
+walk-long list h = rw (add-one (length list)) (rw (← next-range list 0 0 h))
 
 -- ---- the writer
 
