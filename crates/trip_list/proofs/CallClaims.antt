@@ -1,30 +1,37 @@
 -- What holds of the calls: the reader, the answers, the refusals, the cursor and the writer.
 use mathlib.Core.Path.{_≡_, refl, sym, ap, _∙_}
-use mathlib.Core.Bool.{true, false}
+use mathlib.Core.Bool.{true, false, false≢true}
 use mathlib.Core.List.{List, [], _∷_, _++_, map, append-assoc, append-nil}
 use mathlib.Core.Logic.{_≢_, _↔_, _⊎_, inl, inr, ⊎-elim}
 use Prim.Native.Nat.{ℕ, zero, suc, _+_, _≤_, _<_}
 use native.Mathlib.Omega.{arith}
 use native.Mathlib.Nat.{not-suc-le-zero}
 use native.Mathlib.Numerals.{add-one}
+use lib.Dec.{eqb}
 use lib.ListN.{length, getD, take, drop, length-append, length-drop, length-map, drop-of-length-le}
 use lib.Seq.{drop-cons, drop-drop, take-at, drop-at}
 use borrow.Author.Tests.{eq-eqb, ne-eqb, lt-ltb, le-leb, lt-leb}
 use borrow.Table.Steps.{cases}
+use Rattle.answer.specs.declared.Answer.{Answer}
+use Rattle.answer.specs.declared.Answer.the-variants as answers
 use Rattle.answer.specs.Coded.{Coded, done, SHAPE, RANGE, TRIP-FORM, TRIP-ORDER}
+use Rattle.answer.proofs.Coded.{refusal-number, coded-injective}
 use Rattle.memory.specs.Bytes.{part}
 use Rattle.memory.proofs.Bytes.{overwrite-cut}
 use Rattle.memory.proofs.Cases.{split-eq, split-lt}
 use Rattle.text.specs.Decimal.{value}
+use Rattle.trip_list.specs.declared.Trip as code
+use Rattle.trip_list.specs.declared.Lookup.{Lookup}
+use Rattle.trip_list.specs.declared.Lookup.the-variants.{Found, None, Refused}
 use Rattle.trip_list.specs.Trip.{Trip, tripOf}
 use Rattle.trip_list.specs.List.{Parsed, trips, refusal, before, parseFrom, parse, tripsOf, answerOf, listAnswer, spelling, writeAnswer, written}
 use Rattle.trip_list.specs.Lines.{hasLine, firstTrip, lineLength, driverStart, lineStart}
-use Rattle.trip_list.specs.Lookup.{Located, located, given, readTrip, nextAnswer, nextTrip}
+use Rattle.trip_list.specs.Lookup.{Located, located, Given, given, looked, readTrip, nextAnswer, nextTrip}
 use Rattle.trip_list.specs.Walk.{walkOf, onward, walk, wholeWalk, walkParsed}
 use Rattle.trip_list.specs.Entries.{Entry, linesOf, entriesFrom, entryTrip}
 use Rattle.trip_list.proofs.Lines.{lineOf, minuteOf, metresOf, driverOf, texts, line-has, line-trip, line-driver, line-length, line-rest}
 use Rattle.trip_list.proofs.Parsing.{Accepted, line-some, line-within, from-malformed, from-falling, list-parsed, list-range, accepted, accepted-short, accepted-trips}
-use Rattle.trip_list.proofs.Claims.{no-bytes, line-parsed, first-entry, entries-accepted, accepted-entries, never-longer}
+use Rattle.trip_list.proofs.Claims.{no-bytes, line-parsed, first-entry, entries-accepted, accepted-entries, never-longer, parsed-again, accepted-again, output, output-spelled, same-trips-same-bytes, same-bytes-same-trips}
 use Rattle.trip_list.proofs.Walking.{beforeAll, before-refused, place-line, driver-part, next-range, next-end, write-shape}
 
 -- ---- the reader
@@ -439,3 +446,72 @@ module _ (list buffer : List ℕ) where
     done-rest =
         let z : 0 + length (spelling list) ≡ n = omega (arith, done-count) in
         ap (drop n) written-cut ∙ drop-at (spelling list) _ n (sym done-count) ∙ ap (λ (k : ℕ). drop k buffer) z
+
+-- ---- the same trips, in the reader's words
+
+-- the three fields at a place, or none
+abbrev pub fieldsAt : List ℕ → ℕ → List Trip
+fieldsAt list place = map (λ (l : Located). l .trip) (readTrip list place .trip)
+
+located-trips : (at : ℕ) (ts : List Trip) → map (λ (l : Located). l .trip) (map (λ (t : Trip). located t at) ts) ≡ ts
+located-trips at [] = refl
+located-trips at (t ∷ ts) = ap (λ (us : List Trip). t ∷ us) (located-trips at ts)
+
+fields-trips : (list : List ℕ) (n : ℕ) → listAnswer list ≡ done n → (place : ℕ) → fieldsAt list place ≡ take 1 (drop place (tripsOf (parse list)))
+unfolding readTrip
+fields-trips list n e place =
+    let at = lineStart place list in
+    rw e (located-trips (at + driverStart (drop at list)) (take 1 (drop place (tripsOf (parse list)))))
+
+same-places : (xs ys : List Trip) → ((k : ℕ) → take 1 (drop k xs) ≡ take 1 (drop k ys)) → xs ≡ ys
+same-places [] [] h = refl
+same-places [] (y ∷ ys) h = absurd (omega (arith, ap length (h 0)))
+same-places (x ∷ xs) [] h = absurd (omega (arith, ap length (h 0)))
+same-places (x ∷ xs) (y ∷ ys) h =
+    let first : x ≡ y = ap (λ (us : List Trip). getD us 0 x) (h 0) in
+    ap (λ (t : Trip). t ∷ xs) first ∙ ap (λ (us : List Trip). y ∷ us) (same-places xs ys (λ k. h (suc k)))
+
+-- the reader gives the same fields at every place exactly where the writer writes the same bytes
+pub same-fields-same-bytes : (x y b c : List ℕ) (n m : ℕ) → listAnswer x ≡ done n → listAnswer y ≡ done m → length b ≡ 4096 → length c ≡ 4096
+    → ((place : ℕ) → fieldsAt x place ≡ fieldsAt y place) ↔ (output x b ≡ output y c)
+same-fields-same-bytes x y b c n m ex ey hb hc =
+    (λ h. same-trips-same-bytes x y b c n m ex ey hb hc
+    (same-places (tripsOf (parse x)) (tripsOf (parse y)) (λ place. sym (fields-trips x n ex place) ∙ h place ∙ fields-trips y m ey place)),
+    λ q place.
+    fields-trips x n ex place
+    ∙ ap (λ (ts : List Trip). take 1 (drop place ts)) (same-bytes-same-trips x y b c n m ex ey hb hc q)
+    ∙ sym (fields-trips y m ey place))
+
+module _ (list buffer : List ℕ) (n : ℕ) (e : listAnswer list ≡ done n) (h : length buffer ≡ 4096) where
+  -- what is written is accepted, with the same count
+  pub output-answer : listAnswer (output list buffer) ≡ done n
+  output-answer = ap listAnswer (output-spelled list buffer n e h) ∙ accepted-again list n e
+
+  -- and the reader gives the same fields of it at every place
+  pub output-fields : (place : ℕ) → fieldsAt (output list buffer) place ≡ fieldsAt list place
+  output-fields place =
+      fields-trips (output list buffer) n output-answer place
+      ∙ ap (λ (p : Parsed). take 1 (drop place (tripsOf p))) (ap parse (output-spelled list buffer n e h) ∙ parsed-again list)
+      ∙ sym (fields-trips list n e place)
+
+-- ---- what the code returns
+
+-- two values of its enum with one meaning are one value
+pub looked-injective : (list : List ℕ) (a b : Lookup) → looked list a ≡ looked list b → a ≡ b
+looked-injective list (Found n t) (Found m u) e = ap (λ (g : Given). Found (g .answer .count) (tripIn (g .trip))) e
+  where
+    tripIn : List Located → code.Trip
+    tripIn [] = t
+    tripIn (l ∷ ls) = record { minute = l .trip .minute; metres = l .trip .metres; driver = l .driver; letters = l .letters }
+looked-injective list (Found n t) (None m) e = absurd (omega (arith, ap (λ (g : Given). length (g .trip)) e))
+looked-injective list (Found n t) (Refused r) e = absurd (omega (arith, ap (λ (g : Given). length (g .trip)) e))
+looked-injective list (None n) (Found m u) e = absurd (omega (arith, ap (λ (g : Given). length (g .trip)) e))
+looked-injective list (None n) (None m) e = ap (λ (g : Given). None (g .answer .count)) e
+looked-injective list (None n) (Refused r) e = absurd (false≢true (sym (refusal-number r) ∙ ap (λ (g : Given). eqb (g .answer .number) 0) (sym e)))
+looked-injective list (Refused r) (Found m u) e = absurd (omega (arith, ap (λ (g : Given). length (g .trip)) e))
+looked-injective list (Refused r) (None m) e = absurd (false≢true (sym (refusal-number r) ∙ ap (λ (g : Given). eqb (g .answer .number) 0) e))
+looked-injective list (Refused r) (Refused q) e = ap back (coded-injective (answers.Refused r) (answers.Refused q) (ap (λ (g : Given). g .answer) e))
+  where
+    back : Answer → Lookup
+    back (answers.Done n) = None n
+    back (answers.Refused x) = Refused x
