@@ -5,7 +5,7 @@ use mathlib.Core.List.{List, [], _∷_, _++_, map, append-assoc, append-nil}
 use mathlib.Core.Logic.{_≢_, _↔_, _⊎_, inl, inr, ⊎-elim}
 use Prim.Native.Nat.{ℕ, zero, suc, _+_, _≤_, _<_}
 use native.Mathlib.Omega.{arith}
-use native.Mathlib.Nat.{not-suc-le-zero}
+use native.Mathlib.Nat.{not-suc-le-zero, le-of-suc-le-suc}
 use native.Mathlib.Numerals.{add-one}
 use lib.Dec.{eqb}
 use lib.ListN.{length, getD, take, drop, length-append, length-drop, length-map, drop-of-length-le}
@@ -19,19 +19,20 @@ use Rattle.answer.proofs.Coded.{refusal-number, coded-injective}
 use Rattle.memory.specs.Bytes.{part}
 use Rattle.memory.proofs.Bytes.{overwrite-cut}
 use Rattle.memory.proofs.Cases.{split-eq, split-lt}
-use Rattle.text.specs.Decimal.{value}
+use Rattle.text.specs.Decimal.{value, decimal, leadingZeros}
+use Rattle.text.proofs.Decimal.{value-decimal, decimal-no-zeros}
 use Rattle.trip_list.specs.declared.Trip as code
 use Rattle.trip_list.specs.declared.Lookup.{Lookup}
 use Rattle.trip_list.specs.declared.Lookup.the-variants.{Found, None, Refused}
-use Rattle.trip_list.specs.Trip.{Trip, tripOf}
-use Rattle.trip_list.specs.List.{Parsed, trips, refusal, before, parseFrom, parse, tripsOf, answerOf, listAnswer, spelling, writeAnswer, written}
+use Rattle.trip_list.specs.Trip.{Trip, tripOf, spell}
+use Rattle.trip_list.specs.List.{Parsed, trips, refusal, before, parseFrom, parse, tripsOf, answerOf, listAnswer, spelling, writeAnswer, written, validFrom, valid}
 use Rattle.trip_list.specs.Lines.{hasLine, firstTrip, lineLength, driverStart, lineStart}
 use Rattle.trip_list.specs.Lookup.{Located, located, Given, given, looked, readTrip, nextAnswer, nextTrip}
 use Rattle.trip_list.specs.Walk.{walkOf, onward, walk, wholeWalk, walkParsed}
 use Rattle.trip_list.specs.Entries.{Entry, linesOf, entriesFrom, entryTrip}
 use Rattle.trip_list.proofs.Lines.{lineOf, minuteOf, metresOf, driverOf, texts, line-has, line-trip, line-driver, line-length, line-rest}
 use Rattle.trip_list.proofs.Parsing.{Accepted, line-some, line-within, from-malformed, from-falling, list-parsed, list-range, accepted, accepted-short, accepted-trips}
-use Rattle.trip_list.proofs.Claims.{no-bytes, line-parsed, first-entry, entries-accepted, accepted-entries, never-longer, parsed-again, accepted-again, output, output-spelled, same-trips-same-bytes, same-bytes-same-trips}
+use Rattle.trip_list.proofs.Claims.{number-spelled, first-valid, trips-valid, spell-line, no-bytes, line-parsed, first-entry, entries-accepted, accepted-entries, never-longer, parsed-again, accepted-again, output, output-spelled, same-trips-same-bytes, same-bytes-same-trips}
 use Rattle.trip_list.proofs.Walking.{beforeAll, before-refused, place-line, driver-part, next-range, next-end, write-shape}
 
 -- ---- the reader
@@ -493,6 +494,47 @@ module _ (list buffer : List ℕ) (n : ℕ) (e : listAnswer list ≡ done n) (h 
       fields-trips (output list buffer) n output-answer place
       ∙ ap (λ (p : Parsed). take 1 (drop place (tripsOf p))) (ap parse (output-spelled list buffer n e h) ∙ parsed-again list)
       ∙ sym (fields-trips list n e place)
+
+-- ---- no zeros before the numbers of a written line
+
+abbrev spelledEntry : Trip → Entry
+spelledEntry t = record { minute = decimal (t .minute); metres = decimal (t .metres); driver = t .driver }
+
+spell-entries : (ts : List Trip) → spell ts ≡ linesOf (map spelledEntry ts)
+spell-entries [] = refl
+spell-entries (t ∷ ts) = spell-line t (spell ts) ∙ ap (λ (r : List ℕ). lineOf (decimal (t .minute)) (decimal (t .metres)) (t .driver) r) (spell-entries ts)
+
+-- both numbers of every line have no zeros before their digits
+abbrev pub NoZeros : List Entry → Type 0
+NoZeros es = (k : ℕ) (d : Entry) → k < length es → (leadingZeros (getD es k d .minute) ≡ 0) × (leadingZeros (getD es k d .metres) ≡ 0)
+
+spelled-no-zeros : (ts : List Trip) → NoZeros (map spelledEntry ts)
+spelled-no-zeros [] k d h = absurd (not-suc-le-zero h)
+spelled-no-zeros (t ∷ ts) zero d h = (decimal-no-zeros (t .minute), decimal-no-zeros (t .metres))
+spelled-no-zeros (t ∷ ts) (suc k) d h = spelled-no-zeros ts k d (le-of-suc-le-suc h)
+
+spelled-form : (least : ℕ) (ts : List Trip) → validFrom least ts ≡ true → entriesFrom least (map spelledEntry ts) ≡ true
+spelled-form least [] q = refl
+spelled-form least (t ∷ ts) q =
+    let f = first-valid least t ts q in
+    rw (number-spelled (t .minute) (f .limits .minute), number-spelled (t .metres) (f .limits .metres), f .limits .driver, value-decimal (t .minute), le-leb _ _ (f .rises))
+    (spelled-form (t .minute + 1) ts (f .rest))
+
+spelled-trips : (ts : List Trip) → map entryTrip (map spelledEntry ts) ≡ ts
+spelled-trips [] = refl
+spelled-trips (t ∷ ts) = rw (value-decimal (t .minute), value-decimal (t .metres)) (ap (λ (us : List Trip). t ∷ us) (spelled-trips ts))
+
+-- the spelling of valid trips is lines of the form, with these trips, and with no such zeros
+pub spelled-entries : (ts : List Trip) → valid ts ≡ true
+    → (es : List Entry) × (spell ts ≡ linesOf es) × (entriesFrom 0 es ≡ true) × (map entryTrip es ≡ ts) × NoZeros es
+spelled-entries ts q = (map spelledEntry ts, spell-entries ts, spelled-form 0 ts q, spelled-trips ts, spelled-no-zeros ts)
+
+-- and so is what is written
+pub output-entries : (list buffer : List ℕ) (n : ℕ) → listAnswer list ≡ done n → length buffer ≡ 4096
+    → (es : List Entry) × (output list buffer ≡ linesOf es) × (entriesFrom 0 es ≡ true) × (map entryTrip es ≡ tripsOf (parse list)) × NoZeros es
+output-entries list buffer n e h =
+    let x = spelled-entries (tripsOf (parse list)) (trips-valid list) in
+    (x .0, output-spelled list buffer n e h ∙ x .1, x .2, x .3, x .4)
 
 -- ---- what the code returns
 

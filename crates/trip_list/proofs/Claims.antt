@@ -93,10 +93,10 @@ accepted-entries least s (t ∷ ts) q =
 
 -- ---- what is spelled is parsed again
 
-record Limits (t : Trip) : Type 0 where
-  minute : t .minute ≤ greatestNumber
-  metres : t .metres ≤ greatestNumber
-  driver : isDriver (t .driver) ≡ true
+pub record Limits (t : Trip) : Type 0 where
+  pub minute : t .minute ≤ greatestNumber
+  pub metres : t .metres ≤ greatestNumber
+  pub driver : isDriver (t .driver) ≡ true
 
 limits : (t : Trip) → inLimits t ≡ true → Limits t
 unfolding inLimits
@@ -104,29 +104,40 @@ limits t e =
     let at = allOf-at (leb (t .minute) greatestNumber ∷ leb (t .metres) greatestNumber ∷ isDriver (t .driver) ∷ []) e in
     record { minute = leb-true _ _ (at 0); metres = leb-true _ _ (at 1); driver = at 2 }
 
-number-spelled : (n : ℕ) → n ≤ greatestNumber → isNumber (decimal n) ≡ true
+pub number-spelled : (n : ℕ) → n ≤ greatestNumber → isNumber (decimal n) ≡ true
 number-spelled n h = decimal-numeral 10 greatestNumber n (omega arith) (omega arith) h
 
-spell-line : (t : Trip) (r : List ℕ) → spellTrip t ++ r ≡ lineOf (decimal (t .minute)) (decimal (t .metres)) (t .driver) r
+-- the first of valid trips, and the rest
+pub record FirstValid (least : ℕ) (t : Trip) (ts : List Trip) : Type 0 where
+  pub rises : least ≤ t .minute
+  pub limits : Limits t
+  pub rest : validFrom (t .minute + 1) ts ≡ true
+
+pub first-valid : (least : ℕ) (t : Trip) (ts : List Trip) → validFrom least (t ∷ ts) ≡ true → FirstValid least t ts
+first-valid least t ts e =
+    let a = leb least (t .minute) in
+    let rest = validFrom (t .minute + 1) ts in
+    let later = and-right a (inLimits t && rest) e in
+    record { rises = leb-true _ _ (and-left a (inLimits t && rest) e); limits = limits t (and-left (inLimits t) rest later); rest = and-right (inLimits t) rest later }
+
+pub spell-line : (t : Trip) (r : List ℕ) → spellTrip t ++ r ≡ lineOf (decimal (t .minute)) (decimal (t .metres)) (t .driver) r
 unfolding spellTrip
 spell-line t r = simp append-assoc
 
 spelled-parsed : (least : ℕ) (ts : List Trip) → validFrom least ts ≡ true → parseFrom least (spell ts) ≡ trips ts
 spelled-parsed least [] e = from-end least [] (omega arith)
 spelled-parsed least (t ∷ ts) e =
-    let a = leb least (t .minute) in
-    let rest = validFrom (t .minute + 1) ts in
-    let later = and-right a (inLimits t && rest) e in
-    let l = limits t (and-left (inLimits t) rest later) in
+    let f = first-valid least t ts e in
     let m = decimal (t .minute) in
     let k = decimal (t .metres) in
-    let three : Three m k (t .driver) = record { minute = number-spelled (t .minute) (l .minute); metres = number-spelled (t .metres) (l .metres); driver = l .driver } in
+    let three : Three m k (t .driver) =
+    record { minute = number-spelled (t .minute) (f .limits .minute); metres = number-spelled (t .metres) (f .limits .metres); driver = f .limits .driver } in
     let vm : value m ≡ t .minute = value-decimal (t .minute) in
     let vk : value k ≡ t .metres = value-decimal (t .metres) in
-    let rises : least ≤ value m = omega (arith, leb-true least (t .minute) (and-left a (inLimits t && rest) e)) in
+    let rises : least ≤ value m = omega (arith, f .rises) in
     ap (parseFrom least) (spell-line t (spell ts))
     ∙ line-parsed least m k (t .driver) (spell ts) three rises
-    ∙ rw (vm, vk) (ap (before t) (spelled-parsed (t .minute + 1) ts (and-right (inLimits t) rest later)))
+    ∙ rw (vm, vk) (ap (before t) (spelled-parsed (t .minute + 1) ts (f .rest)))
 
 pub parse-spell : (ts : List Trip) → valid ts ≡ true → parse (spell ts) ≡ trips ts
 unfolding parse
@@ -163,22 +174,19 @@ valid-of (trips ts) h = h ts refl
 valid-of (refusal a) h = refl
 
 -- minutes rise: each is above those before it
-valid-later : (n : ℕ) (t : Trip) (ts : List Trip) → validFrom n (t ∷ ts) ≡ true → validFrom (t .minute + 1) ts ≡ true
-valid-later n t ts e = and-right (inLimits t) (validFrom (t .minute + 1) ts) (and-right (leb n (t .minute)) (inLimits t && validFrom (t .minute + 1) ts) e)
-
 valid-from : (n : ℕ) (ts : List Trip) (d : Trip) → validFrom n ts ≡ true → (j : ℕ) → j < length ts → n ≤ getD ts j d .minute
 valid-from n [] d e j h = absurd (not-suc-le-zero h)
-valid-from n (t ∷ ts) d e zero h = leb-true n (t .minute) (and-left (leb n (t .minute)) (inLimits t && validFrom (t .minute + 1) ts) e)
+valid-from n (t ∷ ts) d e zero h = first-valid n t ts e .rises
 valid-from n (t ∷ ts) d e (suc j) h =
-    let f = leb-true n (t .minute) (and-left (leb n (t .minute)) (inLimits t && validFrom (t .minute + 1) ts) e) in
-    omega (arith, f, valid-from (t .minute + 1) ts d (valid-later n t ts e) j (le-of-suc-le-suc h))
+    let f = first-valid n t ts e in
+    omega (arith, f .rises, valid-from (t .minute + 1) ts d (f .rest) j (le-of-suc-le-suc h))
 
 pub minutes-rise : (n : ℕ) (ts : List Trip) (d : Trip) → validFrom n ts ≡ true → (i j : ℕ) → i < j → j < length ts → getD ts i d .minute < getD ts j d .minute
 minutes-rise n [] d e i j h l = absurd (not-suc-le-zero l)
 minutes-rise n (t ∷ ts) d e i zero h l = absurd (not-suc-le-zero h)
-minutes-rise n (t ∷ ts) d e zero (suc j) h l = omega (arith, valid-from (t .minute + 1) ts d (valid-later n t ts e) j (le-of-suc-le-suc l))
+minutes-rise n (t ∷ ts) d e zero (suc j) h l = omega (arith, valid-from (t .minute + 1) ts d (first-valid n t ts e .rest) j (le-of-suc-le-suc l))
 minutes-rise n (t ∷ ts) d e (suc i) (suc j) h l =
-    minutes-rise (t .minute + 1) ts d (valid-later n t ts e) i j (le-of-suc-le-suc h) (le-of-suc-le-suc l)
+    minutes-rise (t .minute + 1) ts d (first-valid n t ts e .rest) i j (le-of-suc-le-suc h) (le-of-suc-le-suc l)
 
 -- ---- a spelling is never longer than what was read, and where it is as long it is the same
 
