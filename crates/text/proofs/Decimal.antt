@@ -230,6 +230,13 @@ zeros-below (c ∷ d ∷ ds) h =
     let l = zeros-below (d ∷ ds) (omega arith) in
     cases (eqb c 48) (λ z. rw z (omega arith)) (λ z. rw z (omega arith))
 
+-- a number printed has none
+pub decimal-no-zeros : (n : ℕ) → leadingZeros (decimal n) ≡ 0
+decimal-no-zeros n =
+    let ds = decimal n in
+    let kept : decimal n ≡ drop (leadingZeros ds) ds = ap decimal (sym (value-decimal n)) ∙ decimal-value ds (decimal-some n) (decimal-every n) in
+    omega (arith, ap length kept, length-drop (leadingZeros ds) ds, zeros-below ds (decimal-some n))
+
 -- ---- a count of the zeros before the others
 
 -- i zeros are counted

@@ -25,7 +25,7 @@ use Rattle.trip_list.proofs.Spelling.{spell-shorter, spell-same}
 
 -- ---- which lists are accepted: lines of three texts of the form, with rising minutes, and no others
 
-line-parsed : (least : ℕ) (m k d r : List ℕ) → Three m k d → least ≤ value m
+pub line-parsed : (least : ℕ) (m k d r : List ℕ) → Three m k d → least ≤ value m
     → parseFrom least (lineOf m k d r) ≡ before (trip (value m) (value k) d) (parseFrom (value m + 1) r)
 line-parsed least m k d r t rises =
     let s = lineOf m k d r in
@@ -34,9 +34,14 @@ line-parsed least m k d r t rises =
     let up : least ≤ firstTrip s .minute = rw trip-is rises in
     from-next least s some (line-has m k d r t) up ∙ rw (trip-is, line-rest m k d r t)
 
-pub entries-accepted : (least : ℕ) (es : List Entry) → entriesFrom least es ≡ true → parseFrom least (linesOf es) ≡ trips (map entryTrip es)
-entries-accepted least [] q = from-end least [] (omega arith)
-entries-accepted least (e ∷ es) q =
+-- the first line, and the rest
+pub record FirstEntry (least : ℕ) (e : Entry) (es : List Entry) : Type 0 where
+  pub three : Three (e .minute) (e .metres) (e .driver)
+  pub rises : least ≤ value (e .minute)
+  pub rest : entriesFrom (value (e .minute) + 1) es ≡ true
+
+pub first-entry : (least : ℕ) (e : Entry) (es : List Entry) → entriesFrom least (e ∷ es) ≡ true → FirstEntry least e es
+first-entry least e es q =
     let a = isNumber (e .minute) in
     let b = isNumber (e .metres) in
     let c = isDriver (e .driver) in
@@ -45,10 +50,18 @@ entries-accepted least (e ∷ es) q =
     let q1 = and-right a (b && (c && (l && rest))) q in
     let q2 = and-right b (c && (l && rest)) q1 in
     let q3 = and-right c (l && rest) q2 in
-    let three : Three (e .minute) (e .metres) (e .driver) =
-    record { minute = and-left a (b && (c && (l && rest))) q; metres = and-left b (c && (l && rest)) q1; driver = and-left c (l && rest) q2 } in
-    line-parsed least (e .minute) (e .metres) (e .driver) (linesOf es) three (leb-true _ _ (and-left l rest q3))
-    ∙ ap (before (entryTrip e)) (entries-accepted (value (e .minute) + 1) es (and-right l rest q3))
+    record {
+      three = record { minute = and-left a (b && (c && (l && rest))) q; metres = and-left b (c && (l && rest)) q1; driver = and-left c (l && rest) q2 };
+      rises = leb-true _ _ (and-left l rest q3);
+      rest = and-right l rest q3;
+    }
+
+pub entries-accepted : (least : ℕ) (es : List Entry) → entriesFrom least es ≡ true → parseFrom least (linesOf es) ≡ trips (map entryTrip es)
+entries-accepted least [] q = from-end least [] (omega arith)
+entries-accepted least (e ∷ es) q =
+    let f = first-entry least e es q in
+    line-parsed least (e .minute) (e .metres) (e .driver) (linesOf es) (f .three) (f .rises)
+    ∙ ap (before (entryTrip e)) (entries-accepted (value (e .minute) + 1) es (f .rest))
 
 -- an accepted list, by its texts
 pub record Entries (least : ℕ) (s : List ℕ) (ts : List Trip) : Type 0 where
@@ -57,7 +70,7 @@ pub record Entries (least : ℕ) (s : List ℕ) (ts : List Trip) : Type 0 where
   pub whole : s ≡ linesOf entries
   pub meaning : map entryTrip entries ≡ ts
 
-no-bytes : (s : List ℕ) → length s ≡ 0 → s ≡ []
+pub no-bytes : (s : List ℕ) → length s ≡ 0 → s ≡ []
 no-bytes [] h = refl
 no-bytes (x ∷ xs) h = absurd (omega arith)
 
@@ -80,10 +93,10 @@ accepted-entries least s (t ∷ ts) q =
 
 -- ---- what is spelled is parsed again
 
-record Limits (t : Trip) : Type 0 where
-  minute : t .minute ≤ greatestNumber
-  metres : t .metres ≤ greatestNumber
-  driver : isDriver (t .driver) ≡ true
+pub record Limits (t : Trip) : Type 0 where
+  pub minute : t .minute ≤ greatestNumber
+  pub metres : t .metres ≤ greatestNumber
+  pub driver : isDriver (t .driver) ≡ true
 
 limits : (t : Trip) → inLimits t ≡ true → Limits t
 unfolding inLimits
@@ -91,29 +104,40 @@ limits t e =
     let at = allOf-at (leb (t .minute) greatestNumber ∷ leb (t .metres) greatestNumber ∷ isDriver (t .driver) ∷ []) e in
     record { minute = leb-true _ _ (at 0); metres = leb-true _ _ (at 1); driver = at 2 }
 
-number-spelled : (n : ℕ) → n ≤ greatestNumber → isNumber (decimal n) ≡ true
+pub number-spelled : (n : ℕ) → n ≤ greatestNumber → isNumber (decimal n) ≡ true
 number-spelled n h = decimal-numeral 10 greatestNumber n (omega arith) (omega arith) h
 
-spell-line : (t : Trip) (r : List ℕ) → spellTrip t ++ r ≡ lineOf (decimal (t .minute)) (decimal (t .metres)) (t .driver) r
+-- the first of valid trips, and the rest
+pub record FirstValid (least : ℕ) (t : Trip) (ts : List Trip) : Type 0 where
+  pub rises : least ≤ t .minute
+  pub limits : Limits t
+  pub rest : validFrom (t .minute + 1) ts ≡ true
+
+pub first-valid : (least : ℕ) (t : Trip) (ts : List Trip) → validFrom least (t ∷ ts) ≡ true → FirstValid least t ts
+first-valid least t ts e =
+    let a = leb least (t .minute) in
+    let rest = validFrom (t .minute + 1) ts in
+    let later = and-right a (inLimits t && rest) e in
+    record { rises = leb-true _ _ (and-left a (inLimits t && rest) e); limits = limits t (and-left (inLimits t) rest later); rest = and-right (inLimits t) rest later }
+
+pub spell-line : (t : Trip) (r : List ℕ) → spellTrip t ++ r ≡ lineOf (decimal (t .minute)) (decimal (t .metres)) (t .driver) r
 unfolding spellTrip
 spell-line t r = simp append-assoc
 
 spelled-parsed : (least : ℕ) (ts : List Trip) → validFrom least ts ≡ true → parseFrom least (spell ts) ≡ trips ts
 spelled-parsed least [] e = from-end least [] (omega arith)
 spelled-parsed least (t ∷ ts) e =
-    let a = leb least (t .minute) in
-    let rest = validFrom (t .minute + 1) ts in
-    let later = and-right a (inLimits t && rest) e in
-    let l = limits t (and-left (inLimits t) rest later) in
+    let f = first-valid least t ts e in
     let m = decimal (t .minute) in
     let k = decimal (t .metres) in
-    let three : Three m k (t .driver) = record { minute = number-spelled (t .minute) (l .minute); metres = number-spelled (t .metres) (l .metres); driver = l .driver } in
+    let three : Three m k (t .driver) =
+    record { minute = number-spelled (t .minute) (f .limits .minute); metres = number-spelled (t .metres) (f .limits .metres); driver = f .limits .driver } in
     let vm : value m ≡ t .minute = value-decimal (t .minute) in
     let vk : value k ≡ t .metres = value-decimal (t .metres) in
-    let rises : least ≤ value m = omega (arith, leb-true least (t .minute) (and-left a (inLimits t && rest) e)) in
+    let rises : least ≤ value m = omega (arith, f .rises) in
     ap (parseFrom least) (spell-line t (spell ts))
     ∙ line-parsed least m k (t .driver) (spell ts) three rises
-    ∙ rw (vm, vk) (ap (before t) (spelled-parsed (t .minute + 1) ts (and-right (inLimits t) rest later)))
+    ∙ rw (vm, vk) (ap (before t) (spelled-parsed (t .minute + 1) ts (f .rest)))
 
 pub parse-spell : (ts : List Trip) → valid ts ≡ true → parse (spell ts) ≡ trips ts
 unfolding parse
@@ -147,22 +171,19 @@ valid-of (trips ts) h = h ts refl
 valid-of (refusal a) h = refl
 
 -- minutes rise: each is above those before it
-valid-later : (n : ℕ) (t : Trip) (ts : List Trip) → validFrom n (t ∷ ts) ≡ true → validFrom (t .minute + 1) ts ≡ true
-valid-later n t ts e = and-right (inLimits t) (validFrom (t .minute + 1) ts) (and-right (leb n (t .minute)) (inLimits t && validFrom (t .minute + 1) ts) e)
-
 valid-from : (n : ℕ) (ts : List Trip) (d : Trip) → validFrom n ts ≡ true → (j : ℕ) → j < length ts → n ≤ getD ts j d .minute
 valid-from n [] d e j h = absurd (not-suc-le-zero h)
-valid-from n (t ∷ ts) d e zero h = leb-true n (t .minute) (and-left (leb n (t .minute)) (inLimits t && validFrom (t .minute + 1) ts) e)
+valid-from n (t ∷ ts) d e zero h = first-valid n t ts e .rises
 valid-from n (t ∷ ts) d e (suc j) h =
-    let f = leb-true n (t .minute) (and-left (leb n (t .minute)) (inLimits t && validFrom (t .minute + 1) ts) e) in
-    omega (arith, f, valid-from (t .minute + 1) ts d (valid-later n t ts e) j (le-of-suc-le-suc h))
+    let f = first-valid n t ts e in
+    omega (arith, f .rises, valid-from (t .minute + 1) ts d (f .rest) j (le-of-suc-le-suc h))
 
 pub minutes-rise : (n : ℕ) (ts : List Trip) (d : Trip) → validFrom n ts ≡ true → (i j : ℕ) → i < j → j < length ts → getD ts i d .minute < getD ts j d .minute
 minutes-rise n [] d e i j h l = absurd (not-suc-le-zero l)
 minutes-rise n (t ∷ ts) d e i zero h l = absurd (not-suc-le-zero h)
-minutes-rise n (t ∷ ts) d e zero (suc j) h l = omega (arith, valid-from (t .minute + 1) ts d (valid-later n t ts e) j (le-of-suc-le-suc l))
+minutes-rise n (t ∷ ts) d e zero (suc j) h l = omega (arith, valid-from (t .minute + 1) ts d (first-valid n t ts e .rest) j (le-of-suc-le-suc l))
 minutes-rise n (t ∷ ts) d e (suc i) (suc j) h l =
-    minutes-rise (t .minute + 1) ts d (valid-later n t ts e) i j (le-of-suc-le-suc h) (le-of-suc-le-suc l)
+    minutes-rise (t .minute + 1) ts d (first-valid n t ts e .rest) i j (le-of-suc-le-suc h) (le-of-suc-le-suc l)
 
 -- ---- a spelling is never longer than what was read, and where it is as long it is the same
 

@@ -6,4 +6,5 @@ pub mod Spelling
 pub mod Claims
 pub mod Stepping
 pub mod Walking
+pub mod CallClaims
 pub mod Table

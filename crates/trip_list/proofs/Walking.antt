@@ -54,7 +54,7 @@ before-none : (ts : List Trip) → beforeAll ts (trips []) ≡ trips ts
 before-none [] = refl
 before-none (u ∷ us) = ap (before u) (before-none us)
 
-before-refused : (ts : List Trip) (a : Coded) → beforeAll ts (refusal a) ≡ refusal a
+pub before-refused : (ts : List Trip) (a : Coded) → beforeAll ts (refusal a) ≡ refusal a
 before-refused [] a = refl
 before-refused (u ∷ us) a = ap (before u) (before-refused us a)
 

@@ -4,3 +4,4 @@ pub mod Lines
 pub mod Lookup
 pub mod Scanner
 pub mod Entries
+pub mod Walk
