@@ -95,9 +95,10 @@ module _ (list : List ℕ) (place : ℕ) where
 
     -- so one is found exactly below the count
     pub found-exactly : (length (readTrip list place .trip) ≡ 1) ↔ (place < n)
-    found-exactly =
-        (λ one. split-lt place n (λ h. h) (λ h. absurd (omega (arith, one, ap length (none-past h)))),
-        λ h. ap length (trip-below h .1))
+    found-exactly = (
+      λ one. split-lt place n (λ h. h) (λ h. absurd (omega (arith, one, ap length (none-past h)))),
+      λ h. ap length (trip-below h .1),
+    )
 
 -- ---- the answers
 
@@ -475,13 +476,14 @@ same-places (x ∷ xs) (y ∷ ys) h =
 -- the reader gives the same fields at every place exactly where the writer writes the same bytes
 pub same-fields-same-bytes : (x y b c : List ℕ) (n m : ℕ) → listAnswer x ≡ done n → listAnswer y ≡ done m → length b ≡ 4096 → length c ≡ 4096
     → ((place : ℕ) → fieldsAt x place ≡ fieldsAt y place) ↔ (output x b ≡ output y c)
-same-fields-same-bytes x y b c n m ex ey hb hc =
-    (λ h. same-trips-same-bytes x y b c n m ex ey hb hc
-    (same-places (tripsOf (parse x)) (tripsOf (parse y)) (λ place. sym (fields-trips x n ex place) ∙ h place ∙ fields-trips y m ey place)),
-    λ q place.
-    fields-trips x n ex place
-    ∙ ap (λ (ts : List Trip). take 1 (drop place ts)) (same-bytes-same-trips x y b c n m ex ey hb hc q)
-    ∙ sym (fields-trips y m ey place))
+same-fields-same-bytes x y b c n m ex ey hb hc = (
+  λ h. same-trips-same-bytes x y b c n m ex ey hb hc
+      (same-places (tripsOf (parse x)) (tripsOf (parse y)) (λ place. sym (fields-trips x n ex place) ∙ h place ∙ fields-trips y m ey place)),
+  λ q place.
+      fields-trips x n ex place
+      ∙ ap (λ (ts : List Trip). take 1 (drop place ts)) (same-bytes-same-trips x y b c n m ex ey hb hc q)
+      ∙ sym (fields-trips y m ey place),
+)
 
 module _ (list buffer : List ℕ) (n : ℕ) (e : listAnswer list ≡ done n) (h : length buffer ≡ 4096) where
   -- what is written is accepted, with the same count
