@@ -9,7 +9,7 @@ use native.Mathlib.Nat.{not-suc-le-zero, le-of-suc-le-suc}
 use native.Mathlib.Numerals.{add-one}
 use lib.Dec.{eqb}
 use lib.ListN.{length, getD, take, drop, length-append, length-drop, length-map, drop-of-length-le}
-use lib.Seq.{drop-cons, drop-drop, take-at, drop-at}
+use lib.Seq.{drop-cons, drop-drop, drop-append-seam, take-at, drop-at}
 use borrow.Author.Tests.{eq-eqb, ne-eqb, lt-ltb, le-leb, lt-leb}
 use borrow.Table.Steps.{cases}
 use Rattle.answer.specs.declared.Answer.{Answer}
@@ -30,7 +30,7 @@ use Rattle.trip_list.specs.Lines.{hasLine, firstTrip, lineLength, driver
 use Rattle.trip_list.specs.Lookup.{Located, located, Given, given, looked, readTrip, nextAnswer, nextTrip}
 use Rattle.trip_list.specs.Walk.{walkOf, onward, walk, wholeWalk, walkParsed}
 use Rattle.trip_list.specs.Entries.{Entry, linesOf, entriesFrom, entryTrip}
-use Rattle.trip_list.proofs.Lines.{lineOf, minuteOf, metresOf, driverOf, texts, line-has, line-trip, line-driver, line-length, line-rest}
+use Rattle.trip_list.proofs.Lines.{lineOf, Three, minuteOf, metresOf, driverOf, texts, line-has, line-trip, line-driver, line-length, line-rest}
 use Rattle.trip_list.proofs.Parsing.{Accepted, line-some, line-within, from-malformed, from-falling, list-parsed, list-range, accepted, accepted-short, accepted-trips}
 use Rattle.trip_list.proofs.Claims.{number-spelled, first-valid, trips-valid, spell-line, no-bytes, line-parsed, first-entry, entries-accepted, accepted-entries, never-longer, parsed-again, accepted-again, output, output-spelled, same-trips-same-bytes, same-bytes-same-trips}
 use Rattle.trip_list.proofs.Walking.{beforeAll, before-refused, place-line, driver-part, next-range, next-end, write-shape}
@@ -125,6 +125,52 @@ done-entries list n e =
     let count : length (x .entries) ≡ n = sym (length-map (x .entries) entryTrip) ∙ ap length (x .meaning) ∙ accepted-trips list n e in
     (x .entries, x .form, short, count, x .whole)
 
+-- ---- the reader, by the texts of a list
+
+-- the index of a line's driver, past its numbers and their commas
+abbrev pub driverIndex : Entry → ℕ
+driverIndex e = length (e .minute) + 1 + (length (e .metres) + 1)
+
+-- where a line starts, and what starts there
+record StartsAt (es : List Entry) (e : Entry) (fs : List Entry) : Type 0 where
+  index : lineStart (length es) (linesOf (es ++ (e ∷ fs))) ≡ length (linesOf es)
+  bytes : drop (lineStart (length es) (linesOf (es ++ (e ∷ fs)))) (linesOf (es ++ (e ∷ fs))) ≡ linesOf (e ∷ fs)
+  three : Three (e .minute) (e .metres) (e .driver)
+
+starts-at : (least : ℕ) (es : List Entry) (e : Entry) (fs : List Entry) → entriesFrom least (es ++ (e ∷ fs)) ≡ true → StartsAt es e fs
+starts-at least [] e fs q = record { index = refl; bytes = refl; three = first-entry least e fs q .three }
+starts-at least (x ∷ xs) e fs q =
+    let f = first-entry least x (xs ++ (e ∷ fs)) q in
+    let r = starts-at (value (x .minute) + 1) xs e fs (f .rest) in
+    let more = linesOf (xs ++ (e ∷ fs)) in
+    let s = lineOf (x .minute) (x .metres) (x .driver) more in
+    let rest : drop (lineLength s) s ≡ more = line-rest (x .minute) (x .metres) (x .driver) more (f .three) in
+    let size : length (linesOf (x ∷ xs)) ≡ length (x .minute) + length (x .metres) + length (x .driver) + 3 + length (linesOf xs) = simp length-append (omega arith) in
+    record {
+      index = omega (arith, size, line-length (x .minute) (x .metres) (x .driver) more (f .three), ap (lineStart (length xs)) rest, r .index);
+      bytes = sym (drop-drop (lineStart (length xs) (drop (lineLength s) s)) (lineLength s) s) ∙ ap (λ (l : List ℕ). drop (lineStart (length xs) l) l) rest ∙ r .bytes;
+      three = r .three;
+    }
+
+trip-after : (es : List Entry) (e : Entry) (fs : List Entry) → take 1 (drop (length es) (map entryTrip (es ++ (e ∷ fs)))) ≡ entryTrip e ∷ []
+trip-after [] e fs = refl
+trip-after (x ∷ xs) e fs = trip-after xs e fs
+
+-- at each line's place the reader gives its trip, and where its driver lies
+pub read-entry : (es : List Entry) (e : Entry) (fs : List Entry) → entriesFrom 0 (es ++ (e ∷ fs)) ≡ true → length (linesOf (es ++ (e ∷ fs))) ≤ 4096
+    → readTrip (linesOf (es ++ (e ∷ fs))) (length es) ≡ given (done (length (es ++ (e ∷ fs)))) (located (entryTrip e) (length (linesOf es) + driverIndex e) ∷ [])
+unfolding readTrip parse
+read-entry es e fs form short =
+    let x = starts-at 0 es e fs form in
+    rw (
+      entries-done (es ++ (e ∷ fs)) form short,
+      entries-accepted 0 (es ++ (e ∷ fs)) form,
+      trip-after es e fs,
+      x .bytes,
+      x .index,
+      line-driver (e .minute) (e .metres) (e .driver) (linesOf fs) (x .three),
+    )
+
 -- ---- which lists are refused, and how
 
 -- lines of the form with rising minutes, then bytes that do not begin with a line
@@ -212,6 +258,14 @@ module _ (list : List ℕ) where
       ∙ entries-then 0 es s (b .form)
       ∙ ap (beforeAll ts) (from-falling (leastAfter 0 es) s some form low)
       ∙ before-refused ts TRIP-ORDER
+
+  -- and that is its answer, where it has at most 4,096 bytes
+  module _ (short : length list ≤ 4096) where
+    pub form-answer : BadForm list → listAnswer list ≡ TRIP-FORM
+    form-answer b = short-parsed list short ∙ ap answerOf (form-refused b)
+
+    pub order-answer : BadOrder list → listAnswer list ≡ TRIP-ORDER
+    order-answer b = short-parsed list short ∙ ap answerOf (order-refused b)
 
 -- the lines of the form in front, as long as their minutes rise, and what stops them
 record Reached (least : ℕ) (s : List ℕ) : Type 0 where
@@ -306,13 +360,36 @@ module _ (list : List ℕ) (short : length list ≤ 4096) where
           let some : 0 < at + lineLength s = omega (arith, line-some s) in
           rw (le-leb _ _ short, lt-ltb _ _ inside, has, le-leb _ _ up, lt-ltb _ _ some)
 
-      next-malformed : hasLine s ≡ false → nextTrip list at least ≡ given TRIP-FORM []
+      -- bytes that do not begin with a line, and a minute below the least
+      pub next-malformed : hasLine s ≡ false → nextTrip list at least ≡ given TRIP-FORM []
       unfolding nextTrip nextAnswer
       next-malformed bad = rw (le-leb _ _ short, lt-ltb _ _ inside, bad)
 
-      next-falling : hasLine s ≡ true → firstTrip s .minute < least → nextTrip list at least ≡ given TRIP-ORDER []
+      pub next-falling : hasLine s ≡ true → firstTrip s .minute < least → nextTrip list at least ≡ given TRIP-ORDER []
       unfolding nextTrip nextAnswer
       next-falling has low = rw (le-leb _ _ short, lt-ltb _ _ inside, has, lt-leb _ _ low)
+
+    -- past the end it gives none, and count 0
+    pub next-past : length list ≤ at → nextTrip list at least ≡ given (done 0) []
+    next-past h = sym (next-end list at least short h)
+
+    -- at a line it gives its trip, where its driver lies, and as count the index after the line
+    pub next-entry : (e : Entry) (r : List ℕ) → s ≡ linesOf (e ∷ []) ++ r → entriesFrom least (e ∷ []) ≡ true
+        → nextTrip list at least ≡ given (done (at + length (linesOf (e ∷ [])))) (located (entryTrip e) (at + driverIndex e) ∷ [])
+    next-entry e r q form =
+        let f = first-entry least e [] form in
+        let m = e .minute in
+        let k = e .metres in
+        let d = e .driver in
+        let whole : s ≡ lineOf m k d r = q ∙ line-then e [] r in
+        let has : hasLine s ≡ true = ap hasLine whole ∙ line-has m k d r (f .three) in
+        let is : firstTrip s ≡ entryTrip e = ap firstTrip whole ∙ line-trip m k d r (f .three) in
+        let up : least ≤ firstTrip s .minute = omega (arith, f .rises, ap (λ (t : Trip). t .minute) is) in
+        let inside : at < length list = omega (arith, length-drop at list, line-some s, line-within s has) in
+        let size : length (linesOf (e ∷ [])) ≡ length m + length k + length d + 3 = simp length-append (omega arith) in
+        let n : lineLength s ≡ length (linesOf (e ∷ [])) = ap lineLength whole ∙ line-length m k d r (f .three) ∙ sym size in
+        let i : driverStart s ≡ driverIndex e = ap driverStart whole ∙ line-driver m k d r (f .three) in
+        next-line inside has up ∙ rw (is, n, i)
 
   -- where these bytes are the rest of the list, the cursor stops
   abbrev Stops : ℕ → List ℕ → Coded → Type 0
@@ -327,19 +404,13 @@ module _ (list : List ℕ) (short : length list ≤ 4096) where
   walk-entries [] (suc steps) at least r a q form few stops = rw (stops at q)
   walk-entries (e ∷ es) (suc steps) at least r a q form few stops =
       let f = first-entry least e es form in
-      let m = e .minute in
-      let k = e .metres in
-      let d = e .driver in
+      let line = linesOf (e ∷ []) in
       let more = linesOf es ++ r in
-      let whole : drop at list ≡ lineOf m k d more = q ∙ line-then e es r in
-      let has : hasLine (drop at list) ≡ true = ap hasLine whole ∙ line-has m k d more (f .three) in
-      let is : firstTrip (drop at list) ≡ entryTrip e = ap firstTrip whole ∙ line-trip m k d more (f .three) in
-      let up : least ≤ firstTrip (drop at list) .minute = omega (arith, f .rises, ap (λ (t : Trip). t .minute) is) in
-      let inside = some-left at (drop at list) refl (omega (arith, line-some (drop at list), line-within (drop at list) has)) in
-      let n = lineLength (drop at list) in
-      let rest : drop (at + n) list ≡ more = sym (drop-drop n at list) ∙ ap (λ (x : List ℕ). drop (lineLength x) x) whole ∙ line-rest m k d more (f .three) in
-      rw (next-line at least inside has up, is)
-      (ap (onward (entryTrip e)) (walk-entries es steps (at + n) (value m + 1) r a rest (f .rest) (omega arith) stops))
+      let alone : entriesFrom least (e ∷ []) ≡ true = rw (f .three .minute, f .three .metres, f .three .driver, le-leb _ _ (f .rises)) in
+      let whole : drop at list ≡ line ++ more = q ∙ line-then e es r ∙ sym (line-then e [] more) in
+      let rest : drop (at + length line) list ≡ more = sym (drop-drop (length line) at list) ∙ ap (drop (length line)) whole ∙ drop-append-seam line more in
+      rw (next-entry at least e more whole alone)
+      (ap (onward (entryTrip e)) (walk-entries es steps (at + length line) (value (e .minute) + 1) r a rest (f .rest) (omega arith) stops))
 
   whole-walk : (es : List Entry) (r : List ℕ) (a : Coded) → list ≡ linesOf es ++ r → entriesFrom 0 es ≡ true → Stops (leastAfter 0 es) r a
       → wholeWalk list ≡ walkOf (map entryTrip es) a
