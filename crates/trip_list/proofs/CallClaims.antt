@@ -33,6 +33,7 @@ use Rattle.trip_list.specs.Entries.{Entry, linesOf, entriesFrom, entryTr
 use Rattle.trip_list.proofs.Lines.{lineOf, Three, minuteOf, metresOf, driverOf, texts, line-has, line-trip, line-driver, line-length, line-rest}
 use Rattle.trip_list.proofs.Parsing.{Accepted, line-some, line-within, from-malformed, from-falling, list-parsed, list-range, accepted, accepted-short, accepted-trips}
 use Rattle.trip_list.proofs.Claims.{number-spelled, first-valid, trips-valid, spell-line, no-bytes, line-parsed, first-entry, entries-accepted, accepted-entries, never-longer, parsed-again, accepted-again, output, output-spelled, same-trips-same-bytes, same-bytes-same-trips}
+use Rattle.trip_list.proofs.Stepping.{driver-within}
 use Rattle.trip_list.proofs.Walking.{beforeAll, before-refused, place-line, driver-part, next-range, next-end, write-shape}
 
 -- ---- the reader
@@ -43,21 +44,6 @@ pub record TripAt (list : List ℕ) (place : ℕ) (l : Located) : Type 0 where
   pub letters : l .letters ≡ length (l .trip .driver)
   pub bytes : part list (l .driver) (l .letters) ≡ l .trip .driver
   pub within : l .driver + l .letters < length list
-
--- the driver ends before the LF
-driver-within : (s : List ℕ) → hasLine s ≡ true → driverStart s + length (firstTrip s .driver) < lineLength s
-unfolding firstTrip tripOf
-driver-within s form =
-    let t = texts s form in
-    let m = minuteOf s in
-    let k = metresOf s in
-    let d = driverOf s in
-    let r = drop (lineLength s) s in
-    omega (
-      arith,
-      ap driverStart (t .whole) ∙ line-driver m k d r (t .three),
-      ap lineLength (t .whole) ∙ line-length m k d r (t .three),
-    )
 
 module _ (list : List ℕ) (place : ℕ) where
   -- the answer is the list's, at every place

@@ -55,7 +55,8 @@ pub first-small : (s : List ℕ) → hasLine s ≡ true → (firstTrip s .minute
 unfolding firstTrip tripOf
 first-small s e = let t = texts s e .three in (number-small (minuteOf s) (t .minute), number-small (metresOf s) (t .metres))
 
-driver-within : (s : List ℕ) → hasLine s ≡ true → driverStart s + length (firstTrip s .driver) ≤ lineLength s
+-- the driver ends before the LF
+pub driver-within : (s : List ℕ) → hasLine s ≡ true → driverStart s + length (firstTrip s .driver) < lineLength s
 driver-within s e =
     let t = texts s e in
     let d : driverStart s ≡ length (minuteOf s) + 1 + (length (metresOf s) + 1) = ap driverStart (t .whole) ∙ line-driver (minuteOf s) (metresOf s) (driverOf s) _ (t .three) in

@@ -15,7 +15,7 @@ pub struct Trip<'a> {
     pub minute: u32,
     /// How far.
     pub metres: u32,
-    /// Who: 1 to 16 of A to Z and 0 to 9, where they stand in the list.
+    /// Who: up to sixteen capital letters and digits, where they stand in the list.
     pub driver: &'a str,
 }
 
@@ -32,8 +32,8 @@ impl<'a> Trip<'a> {
     }
 }
 
-/// The trip at a place of a list, from 0, or none past the last; and the number
-/// of trips. The whole list is checked, wherever the place is.
+/// Looks a trip up by its place in a list, counted from 0: the trip, if there is
+/// one, and how many the list has. The whole list is checked, wherever the place is.
 ///
 /// ```
 /// use boxstore::{read_trip, Error};
