@@ -24,13 +24,13 @@ use Rattle.text.proofs.Decimal.{value-decimal, decimal-no-zeros}
 use Rattle.trip_list.specs.declared.Trip as code
 use Rattle.trip_list.specs.declared.Lookup.{Lookup}
 use Rattle.trip_list.specs.declared.Lookup.the-variants.{Found, None, Refused}
-use Rattle.trip_list.specs.Trip.{Trip, tripOf, spell}
+use Rattle.trip_list.specs.Trip.{Trip, tripOf, spell, lineOf}
 use Rattle.trip_list.specs.List.{Parsed, trips, refusal, before, parseFrom, parse, tripsOf, answerOf, listAnswer, spelling, writeAnswer, written, validFrom, valid}
 use Rattle.trip_list.specs.Lines.{hasLine, firstTrip, lineLength, driverStart, lineStart}
 use Rattle.trip_list.specs.Lookup.{Located, located, Given, given, looked, readTrip, nextAnswer, nextTrip}
 use Rattle.trip_list.specs.Walk.{walkOf, onward, walk, wholeWalk, walkParsed}
 use Rattle.trip_list.specs.Entries.{Entry, linesOf, entriesFrom, entryTrip}
-use Rattle.trip_list.proofs.Lines.{lineOf, Three, minuteOf, metresOf, driverOf, texts, line-has, line-trip, line-driver, line-length, line-rest}
+use Rattle.trip_list.proofs.Lines.{Three, minuteOf, metresOf, driverOf, texts, line-has, line-trip, line-driver, line-length, line-rest}
 use Rattle.trip_list.proofs.Parsing.{Accepted, line-some, line-within, from-malformed, from-falling, list-parsed, list-range, accepted, accepted-short, accepted-trips}
 use Rattle.trip_list.proofs.Claims.{number-spelled, first-valid, trips-valid, spell-line, no-bytes, line-parsed, first-entry, entries-accepted, accepted-entries, never-longer, parsed-again, accepted-again, output, output-spelled, same-trips-same-bytes, same-bytes-same-trips}
 use Rattle.trip_list.proofs.Stepping.{driver-within}

@@ -15,11 +15,11 @@ use Rattle.scan.proofs.Scan.{and-left, and-right, allOf-at}
 use Rattle.text.specs.Decimal.{value, decimal}
 use Rattle.text.specs.Marks.{LF, comma}
 use Rattle.text.proofs.Decimal.{decimal-numeral, value-decimal}
-use Rattle.trip_list.specs.Trip.{Trip, trip, greatestNumber, isNumber, isDriver, tripOf, spellTrip, spell, inLimits}
+use Rattle.trip_list.specs.Trip.{Trip, trip, greatestNumber, isNumber, isDriver, tripOf, spellTrip, spell, inLimits, lineOf}
 use Rattle.trip_list.specs.List.{Parsed, trips, refusal, before, parseFrom, parse, tripsOf, greatestList, answerOf, listAnswer, spelling, writeAnswer, written, validFrom, valid}
 use Rattle.trip_list.specs.Lines.{hasLine, firstTrip, lineLength}
 use Rattle.trip_list.specs.Entries.{Entry, linesOf, entriesFrom, entryTrip}
-use Rattle.trip_list.proofs.Lines.{number-small, lineOf, Three, minuteOf, metresOf, driverOf, texts, line-has, line-trip, line-rest}
+use Rattle.trip_list.proofs.Lines.{number-small, Three, minuteOf, metresOf, driverOf, texts, line-has, line-trip, line-rest}
 use Rattle.trip_list.proofs.Parsing.{Accepted, line-within, from-end, from-next, parsed-first, parsed-none, list-parsed, accepted, accepted-short, accepted-trips}
 use Rattle.trip_list.proofs.Spelling.{spell-shorter, spell-same}
 

@@ -18,7 +18,7 @@ use Rattle.text.specs.Marks.{LF, comma, isMark, fields}
 use Rattle.text.proofs.Decimal.{numeral}
 use Rattle.text.proofs.Marks.{isOther, parts-after, parts-alone, between, parts-between}
 use Rattle.trip_list.specs.declared.Line as line
-use Rattle.trip_list.specs.Trip.{trip, greatestNumber, isDriverByte, isNumber, isDriver, field, hasForm, tripOf}
+use Rattle.trip_list.specs.Trip.{trip, greatestNumber, isDriverByte, isNumber, isDriver, field, hasForm, tripOf, lineOf}
 use Rattle.trip_list.specs.Lines.{firstLine, hasLine, firstTrip, lineLength, driverStart}
 
 -- ---- texts that are fields
@@ -59,12 +59,9 @@ after-mark xs y ys = drop-append-add xs (y ∷ ys) 1
 
 -- ---- a line by its three texts
 
--- without its LF, and with it before the rest
+-- without its LF
 abbrev pub textOf : List ℕ → List ℕ → List ℕ → List ℕ
 textOf m k d = m ++ (comma ∷ k ++ (comma ∷ d))
-
-abbrev pub lineOf : List ℕ → List ℕ → List ℕ → List ℕ → List ℕ
-lineOf m k d r = m ++ (comma ∷ k ++ (comma ∷ d ++ (LF ∷ r)))
 
 text-line : (m k d r : List ℕ) → lineOf m k d r ≡ textOf m k d ++ (LF ∷ r)
 text-line m k d r = simp append-assoc

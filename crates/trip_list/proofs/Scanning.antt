@@ -2,7 +2,7 @@
 use mathlib.Core.Path.{_≡_, refl, sym, ap, _∙_}
 use mathlib.Core.Bool.{Bool, true, false, false≢true}
 use mathlib.Core.List.{List, [], _∷_, _++_}
-use Prim.Native.Nat.{ℕ, _+_, _-_, _≤_, _<_}
+use Prim.Native.Nat.{ℕ, suc, _+_, _-_, _≤_, _<_}
 use native.Mathlib.Omega.{arith}
 use lib.Dec.{eqb}
 use lib.ListN.{length, getD, take, drop, length-drop}
@@ -12,11 +12,11 @@ use Rattle.scan.proofs.Scan.{and-left, and-right, is-false}
 use Rattle.text.specs.Decimal.{isDigit, value, leadingZeros}
 use Rattle.text.specs.Marks.{LF, comma, fields}
 use Rattle.trip_list.specs.declared.Line as line
-use Rattle.trip_list.specs.Trip.{Trip, trip, isDriverByte, isNumber, isDriver, field}
+use Rattle.trip_list.specs.Trip.{Trip, trip, isDriverByte, isNumber, isDriver, field, lineOf}
 use Rattle.trip_list.specs.Lines.{firstLine, hasLine, firstTrip, lineLength, driverStart}
-use Rattle.trip_list.specs.Scanner.{run, front, numberField, driverField, NumberRead, DriverRead, LineRead}
+use Rattle.trip_list.specs.Scanner.{run, front, fieldBefore, numberField, driverField, NumberRead, DriverRead, LineRead}
 use Rattle.trip_list.proofs.Runs.{run-join, front-join, mark-within, front-split, length-run}
-use Rattle.trip_list.proofs.Lines.{number-digits, driver-every, LF-no-driver, after-mark, lineOf, Three, minuteOf, metresOf, driverOf, Texts, texts, line-fields, line-has, line-trip, line-length, line-driver}
+use Rattle.trip_list.proofs.Lines.{number-digits, driver-every, LF-no-driver, after-mark, Three, minuteOf, metresOf, driverOf, Texts, texts, line-fields, line-has, line-trip, line-length, line-driver}
 
 -- ---- a field, its mark, and what comes after
 
@@ -44,34 +44,34 @@ pub record Split (t : ℕ → Bool) (isField : List ℕ → Bool) (mark : ℕ) (
   pub within : run t s < length s
   pub whole : s ≡ front t s ++ (mark ∷ drop (run t s + 1) s)
 
+-- its mark is not 0, so it stands within the bytes
+field-split : (m : ℕ) (t : ℕ → Bool) (isField : List ℕ → Bool) (s : List ℕ) → fieldBefore (suc m) t isField s ≡ true → Split t isField (suc m) s
+field-split m t isField s e =
+    let c = eqb (getD s (run t s) 0) (suc m) in
+    let q : c ≡ true = and-right (isField (front t s)) c e in
+    let w = mark-within s (run t s) m q in
+    record { text = and-left (isField (front t s)) c e; within = w; whole = front-split t s (suc m) (eqb-true _ _ q) w }
+
 pub number-split : (s : List ℕ) → numberField s ≡ true → Split isDigit isNumber comma s
 unfolding numberField
-number-split s e =
-    let c = eqb (getD s (run isDigit s) 0) comma in
-    let q : c ≡ true = and-right (isNumber (front isDigit s)) c e in
-    let w = mark-within s (run isDigit s) 43 q in
-    record { text = and-left (isNumber (front isDigit s)) c e; within = w; whole = front-split isDigit s comma (eqb-true _ _ q) w }
+number-split s e = field-split 43 isDigit isNumber s e
 
 pub driver-split : (s : List ℕ) → driverField s ≡ true → Split isDriverByte isDriver LF s
 unfolding driverField
-driver-split s e =
-    let c = eqb (getD s (run isDriverByte s) 0) LF in
-    let q : c ≡ true = and-right (isDriver (front isDriverByte s)) c e in
-    let w = mark-within s (run isDriverByte s) 9 q in
-    record { text = and-left (isDriver (front isDriverByte s)) c e; within = w; whole = front-split isDriverByte s LF (eqb-true _ _ q) w }
+driver-split s e = field-split 9 isDriverByte isDriver s e
 
 -- ---- a line
 
 pub line-false : (s : List ℕ) (l : line.Line) → l .fits ≡ false → false ≡ hasLine s → LineRead s l
 line-false s l e h = record { told = e ∙ h; read = λ q. absurd (false≢true (sym e ∙ q)) }
 
+-- a line would have had the field
+no-line : (s : List ℕ) (b isField : Bool) → (Texts s → isField ≡ true) → b ≡ isField → b ≡ false → false ≡ hasLine s
+no-line s b isField has told e = sym (is-false (hasLine s) (λ h. false≢true (sym e ∙ told ∙ has (texts s h))))
+
 module _ (s : List ℕ) (b : Bool) (v i : ℕ) (r : NumberRead s b v i) where
   pub no-minute : b ≡ false → false ≡ hasLine s
-  no-minute e =
-      sym (is-false (hasLine s) (λ h.
-      let t = texts s h in
-      let q : numberField s ≡ true = ap numberField (t .whole) ∙ number-field (minuteOf s) _ (t .three .minute) in
-      false≢true (sym e ∙ r .told ∙ q)))
+  no-minute = no-line s b (numberField s) (λ t. ap numberField (t .whole) ∙ number-field (minuteOf s) _ (t .three .minute)) (r .told)
 
   module _ (e : b ≡ true) where
     first : Split isDigit isNumber comma s
@@ -95,11 +95,7 @@ module _ (s : List ℕ) (b : Bool) (v i : ℕ) (r : NumberRead s b v i) where
 
       module _ (g : Bool) (k j : ℕ) (q : NumberRead u g k j) where
         pub no-metres : g ≡ false → false ≡ hasLine s
-        no-metres f =
-            sym (is-false (hasLine s) (λ h.
-            let t = texts s h in
-            let p : numberField u ≡ true = ap numberField (after-minute t) ∙ number-field (metresOf s) _ (t .three .metres) in
-            false≢true (sym f ∙ q .told ∙ p)))
+        no-metres = no-line s g (numberField u) (λ t. ap numberField (after-minute t) ∙ number-field (metresOf s) _ (t .three .metres)) (q .told)
 
         module _ (f : g ≡ true) where
           second : Split isDigit isNumber comma u
@@ -134,11 +130,7 @@ module _ (s : List ℕ) (b : Bool) (v i : ℕ) (r : NumberRead s b v i) where
 
             module _ (h : Bool) (n : ℕ) (p : DriverRead x h n) where
               pub no-driver : h ≡ false → false ≡ hasLine s
-              no-driver o =
-                  sym (is-false (hasLine s) (λ l.
-                  let t = texts s l in
-                  let z : driverField x ≡ true = ap driverField (after-metres t) ∙ driver-field (driverOf s) _ (t .three .driver) in
-                  false≢true (sym o ∙ p .told ∙ z)))
+              no-driver = no-line s h (driverField x) (λ t. ap driverField (after-metres t) ∙ driver-field (driverOf s) _ (t .three .driver)) (p .told)
 
               module _ (o : h ≡ true) where
                 third : Split isDriverByte isDriver LF x

@@ -1,11 +1,10 @@
 -- A list by its texts: each line is three texts with commas between them and LF at the end.
 use mathlib.Core.Bool.{Bool, true, _&&_}
-use mathlib.Core.List.{List, [], _∷_, _++_}
+use mathlib.Core.List.{List, [], _∷_}
 use Prim.Native.Nat.{ℕ, _+_}
 use lib.Dec.{leb}
 use Rattle.text.specs.Decimal.{value}
-use Rattle.text.specs.Marks.{LF, comma}
-use Rattle.trip_list.specs.Trip.{Trip, trip, isNumber, isDriver}
+use Rattle.trip_list.specs.Trip.{Trip, trip, isNumber, isDriver, lineOf}
 
 pub record Entry : Type 0 where
   pub minute : List ℕ
@@ -15,7 +14,7 @@ pub record Entry : Type 0 where
 -- the bytes of these lines
 abbrev pub linesOf : List Entry → List ℕ
 linesOf [] = []
-linesOf (e ∷ es) = e .minute ++ (comma ∷ e .metres ++ (comma ∷ e .driver ++ (LF ∷ linesOf es)))
+linesOf (e ∷ es) = lineOf (e .minute) (e .metres) (e .driver) (linesOf es)
 
 -- each has the form, and each minute is above the one before
 abbrev pub entriesFrom : ℕ → List Entry → Bool

@@ -27,13 +27,15 @@ run t s = firstIndex (λ c. not (t c)) s
 unfoldable pub front : (ℕ → Bool) → List ℕ → List ℕ
 front t s = take (run t s) s
 
--- digits that are a number, with a comma after them
-unfoldable pub numberField : List ℕ → Bool
-numberField s = isNumber (front isDigit s) && eqb (getD s (run isDigit s) 0) comma
+-- such bytes that are a field, with the mark after them
+abbrev pub fieldBefore : ℕ → (ℕ → Bool) → (List ℕ → Bool) → List ℕ → Bool
+fieldBefore mark t isField s = isField (front t s) && eqb (getD s (run t s) 0) mark
 
--- letters and digits that are a driver, with LF after them
+unfoldable pub numberField : List ℕ → Bool
+numberField = fieldBefore comma isDigit isNumber
+
 unfoldable pub driverField : List ℕ → Bool
-driverField s = isDriver (front isDriverByte s) && eqb (getD s (run isDriverByte s) 0) LF
+driverField = fieldBefore LF isDriverByte isDriver
 
 -- the field in front is a number exactly where `fits`; then these are its value and its digits
 pub record NumberRead (s : List ℕ) (fits : Bool) (n digits : ℕ) : Type 0 where

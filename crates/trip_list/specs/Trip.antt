@@ -46,8 +46,12 @@ tripOf line = trip (value (field 0 line)) (value (field 1 line)) (field 2 line)
 
 -- ---- the one spelling, with its LF
 
+-- a line of three texts, before other bytes
+abbrev pub lineOf : List ℕ → List ℕ → List ℕ → List ℕ → List ℕ
+lineOf minute metres driver rest = minute ++ (comma ∷ metres ++ (comma ∷ driver ++ (LF ∷ rest)))
+
 unfoldable pub spellTrip : Trip → List ℕ
-spellTrip t = decimal (t .minute) ++ (comma ∷ decimal (t .metres) ++ (comma ∷ t .driver ++ (LF ∷ [])))
+spellTrip t = lineOf (decimal (t .minute)) (decimal (t .metres)) (t .driver) []
 
 abbrev pub spell : List Trip → List ℕ
 spell [] = []

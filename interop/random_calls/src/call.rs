@@ -277,16 +277,8 @@ impl Call {
     /// Calls of the same kind with one thing made simpler: a number smaller, a
     /// buffer shorter or of one value.
     pub fn simpler(&self) -> Vec<Call> {
-        let mut simpler = Vec::new();
+        let mut simpler = with_smaller_numbers(self, Call::numbers);
         let mut call = self.clone();
-        for index in 0..call.numbers().len() {
-            let number = *call.numbers()[index];
-            for smaller in smaller(number) {
-                *call.numbers()[index] = smaller;
-                simpler.push(call.clone());
-            }
-            *call.numbers()[index] = number;
-        }
         for index in 0..call.buffers().len() {
             let bytes = call.buffers()[index].clone();
             for shorter in smaller(bytes.len()) {
@@ -402,6 +394,24 @@ pub fn smaller(number: usize) -> impl Iterator<Item = usize> {
         number.saturating_sub(1),
     ];
     numbers.into_iter().filter(move |&smaller| smaller < number)
+}
+
+/// The calls that differ from one in a smaller number.
+pub fn with_smaller_numbers<C: Clone>(
+    call: &C,
+    numbers: for<'a> fn(&'a mut C) -> Vec<&'a mut usize>,
+) -> Vec<C> {
+    let mut simpler = Vec::new();
+    let mut call = call.clone();
+    for index in 0..numbers(&mut call).len() {
+        let number = *numbers(&mut call)[index];
+        for smaller in smaller(number) {
+            *numbers(&mut call)[index] = smaller;
+            simpler.push(call.clone());
+        }
+        *numbers(&mut call)[index] = number;
+    }
+    simpler
 }
 
 impl fmt::Display for Call {

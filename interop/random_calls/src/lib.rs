@@ -13,7 +13,7 @@ mod shrink;
 mod store;
 mod text;
 
-pub use call::{any_number, random_bytes, smaller, Call};
+pub use call::{any_number, random_bytes, smaller, with_smaller_numbers, Call};
 pub use compare::{compare, Difference, Tally};
 pub use guarded::{guarded, Element, Guarded};
 pub use memory::{Memory, MemoryMut, MemoryRef, MemoryVec};
@@ -22,3 +22,15 @@ pub use random_memory::{fill, GuardedMemory};
 pub use reference_store::{decode, encode, word, Reference};
 pub use store::Store;
 pub use text::Bytes;
+
+/// Whether `compare` finds each of these faults of a `Faulty` in so many tries:
+/// beside a right implementation, or beside the faulty one `itself`.
+#[macro_export]
+macro_rules! faults_found {
+    (itself, $tries:literal: $($fault:literal)*) => {
+        [$(compare::<Faulty<$fault>, Faulty<$fault>>(1, $tries).is_err()),*]
+    };
+    ($right:ident, $tries:literal: $($fault:literal)*) => {
+        [$(compare::<$right, Faulty<$fault>>(1, $tries).is_err()),*]
+    };
+}

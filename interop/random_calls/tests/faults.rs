@@ -4,7 +4,9 @@ use layout::{
     FILES, FILE_BYTES, FRAMES_BYTES, MEDIA_BYTES, PAGE_BYTES, STATE_BYTES, STATE_LOGICAL,
     STATE_MOUNTED,
 };
-use random_calls::{compare, Call, GuardedMemory, MemoryMut, MemoryRef, Reference, Store};
+use random_calls::{
+    compare, faults_found, Call, GuardedMemory, MemoryMut, MemoryRef, Reference, Store,
+};
 
 /// The reference, with one fault.
 struct Faulty<const FAULT: usize>;
@@ -197,36 +199,10 @@ fn few_calls_do_not_give_every_answer() {
 
 #[test]
 fn every_fault_is_found() {
-    let found = [
-        compare::<Reference, Faulty<1>>,
-        compare::<Reference, Faulty<2>>,
-        compare::<Reference, Faulty<3>>,
-        compare::<Reference, Faulty<4>>,
-        compare::<Reference, Faulty<5>>,
-        compare::<Reference, Faulty<6>>,
-        compare::<Reference, Faulty<7>>,
-        compare::<Reference, Faulty<8>>,
-        compare::<Reference, Faulty<9>>,
-        compare::<Reference, Faulty<10>>,
-        compare::<Reference, Faulty<11>>,
-        compare::<Reference, Faulty<12>>,
-        compare::<Reference, Faulty<13>>,
-        compare::<Reference, Faulty<14>>,
-        compare::<Reference, Faulty<15>>,
-        compare::<Reference, Faulty<16>>,
-        compare::<Reference, Faulty<17>>,
-        compare::<Reference, Faulty<18>>,
-        compare::<Reference, Faulty<19>>,
-        compare::<Reference, Faulty<20>>,
-        compare::<Reference, Faulty<21>>,
-        compare::<Reference, Faulty<22>>,
-        compare::<Reference, Faulty<23>>,
-        compare::<Reference, Faulty<24>>,
-        compare::<Reference, Faulty<25>>,
-        compare::<Reference, Faulty<26>>,
-        compare::<Reference, Faulty<27>>,
-    ]
-    .map(|compare| compare(1, 30_000).is_err());
+    let found = faults_found!(Reference, 30_000:
+        1 2 3 4 5 6 7 8 9 10 11 12 13 14 15 16 17 18 19 20
+        21 22 23 24 25 26 27
+    );
     assert_eq!(found, [true; FAULTS]);
 }
 
@@ -234,19 +210,9 @@ fn every_fault_is_found() {
 /// without another store that is right.
 #[test]
 fn some_faults_are_found_beside_themselves() {
-    let found = [
-        compare::<Faulty<6>, Faulty<6>>,
-        compare::<Faulty<15>, Faulty<15>>,
-        compare::<Faulty<17>, Faulty<17>>,
-        compare::<Faulty<18>, Faulty<18>>,
-        compare::<Faulty<22>, Faulty<22>>,
-        compare::<Faulty<23>, Faulty<23>>,
-        compare::<Faulty<24>, Faulty<24>>,
-        compare::<Faulty<25>, Faulty<25>>,
-        compare::<Faulty<26>, Faulty<26>>,
-        compare::<Faulty<27>, Faulty<27>>,
-    ]
-    .map(|compare| compare(1, 30_000).is_err());
+    let found = faults_found!(itself, 30_000:
+        6 15 17 18 22 23 24 25 26 27
+    );
     assert_eq!(found, [true; 10]);
 }
 

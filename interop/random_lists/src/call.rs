@@ -3,7 +3,7 @@
 use std::fmt;
 
 use layout::{LIST_BYTES, TRIP_NUMBERS};
-use random_calls::{any_number, guarded, random_bytes, smaller, Bytes, BESIDE};
+use random_calls::{any_number, guarded, random_bytes, with_smaller_numbers, Bytes, BESIDE};
 use random_sessions::rng::Rng;
 
 use crate::random_list::{digits_at, line_start};
@@ -147,16 +147,8 @@ impl Call {
     /// Calls of the same kind with one thing made simpler: a number smaller, or
     /// a buffer of one value.
     pub fn simpler(&self) -> Vec<Call> {
-        let mut simpler = Vec::new();
+        let mut simpler = with_smaller_numbers(self, Call::numbers);
         let mut call = self.clone();
-        for index in 0..call.numbers().len() {
-            let number = *call.numbers()[index];
-            for smaller in smaller(number) {
-                *call.numbers()[index] = smaller;
-                simpler.push(call.clone());
-            }
-            *call.numbers()[index] = number;
-        }
         match &mut call {
             Call::ReadTrip { trip, .. } | Call::NextTrip { trip, .. } => trip.fill(1),
             Call::WriteTrips { buffer } => buffer.fill(1),

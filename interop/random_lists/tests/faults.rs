@@ -1,7 +1,7 @@
 //! The comparison finds an implementation with a fault.
 
 use layout::{LIST_BYTES, TRIP_NUMBERS};
-use random_calls::Reference;
+use random_calls::{faults_found, Reference};
 use random_lists::{compare, Call, Check, TripLists};
 
 const FORM: u32 = 10 << 16;
@@ -258,68 +258,19 @@ fn few_lists_do_not_give_every_answer() {
 
 #[test]
 fn every_fault_is_found() {
-    let found = [
-        compare::<Reference, Faulty<1>>,
-        compare::<Reference, Faulty<2>>,
-        compare::<Reference, Faulty<3>>,
-        compare::<Reference, Faulty<4>>,
-        compare::<Reference, Faulty<5>>,
-        compare::<Reference, Faulty<6>>,
-        compare::<Reference, Faulty<7>>,
-        compare::<Reference, Faulty<8>>,
-        compare::<Reference, Faulty<9>>,
-        compare::<Reference, Faulty<10>>,
-        compare::<Reference, Faulty<11>>,
-        compare::<Reference, Faulty<12>>,
-        compare::<Reference, Faulty<13>>,
-        compare::<Reference, Faulty<14>>,
-        compare::<Reference, Faulty<15>>,
-        compare::<Reference, Faulty<16>>,
-        compare::<Reference, Faulty<17>>,
-        compare::<Reference, Faulty<18>>,
-        compare::<Reference, Faulty<19>>,
-        compare::<Reference, Faulty<20>>,
-        compare::<Reference, Faulty<21>>,
-        compare::<Reference, Faulty<22>>,
-        compare::<Reference, Faulty<23>>,
-        compare::<Reference, Faulty<24>>,
-        compare::<Reference, Faulty<25>>,
-        compare::<Reference, Faulty<26>>,
-        compare::<Reference, Faulty<27>>,
-        compare::<Reference, Faulty<28>>,
-        compare::<Reference, Faulty<29>>,
-        compare::<Reference, Faulty<30>>,
-        compare::<Reference, Faulty<31>>,
-        compare::<Reference, Faulty<32>>,
-        compare::<Reference, Faulty<33>>,
-        compare::<Reference, Faulty<34>>,
-    ]
-    .map(|compare| compare(1, 8_000).is_err());
+    let found = faults_found!(Reference, 8_000:
+        1 2 3 4 5 6 7 8 9 10 11 12 13 14 15 16 17 18 19 20
+        21 22 23 24 25 26 27 28 29 30 31 32 33 34
+    );
     assert_eq!(found, [true; FAULTS]);
 }
 
 /// By the laws, without another implementation that is right.
 #[test]
 fn some_faults_are_found_beside_themselves() {
-    let found = [
-        compare::<Faulty<10>, Faulty<10>>,
-        compare::<Faulty<17>, Faulty<17>>,
-        compare::<Faulty<18>, Faulty<18>>,
-        compare::<Faulty<19>, Faulty<19>>,
-        compare::<Faulty<20>, Faulty<20>>,
-        compare::<Faulty<21>, Faulty<21>>,
-        compare::<Faulty<22>, Faulty<22>>,
-        compare::<Faulty<23>, Faulty<23>>,
-        compare::<Faulty<25>, Faulty<25>>,
-        compare::<Faulty<26>, Faulty<26>>,
-        compare::<Faulty<28>, Faulty<28>>,
-        compare::<Faulty<29>, Faulty<29>>,
-        compare::<Faulty<30>, Faulty<30>>,
-        compare::<Faulty<31>, Faulty<31>>,
-        compare::<Faulty<33>, Faulty<33>>,
-        compare::<Faulty<34>, Faulty<34>>,
-    ]
-    .map(|compare| compare(1, 8_000).is_err());
+    let found = faults_found!(itself, 8_000:
+        10 17 18 19 20 21 22 23 25 26 28 29 30 31 33 34
+    );
     assert_eq!(found, [true; 16]);
 }
 

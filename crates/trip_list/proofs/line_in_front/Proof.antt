@@ -91,21 +91,21 @@ add-t24 c =
     let u = part s i (length s - i) in
     omega (arith, third k, c .leading-zeros2 .ensures, zeros-within (take j u) j (few j u))
 
-add-t25 : tie.Need-add-t25
-add-t25 c =
+-- and the line ends there
+ends : (c : tie.After-struct-known3) → c .before .before .before .before .before .before .before .before .before .before .before .before .before .number-in-front .result .digits + 1 + c .before .before .before .before .before .before .before .before .before .number-in-front2 .result .digits + 1 + c .before .before .before .before .before .driver-in-front .result .letters + 1
+    ≤ length (c .before .before .before .before .before .before .before .before .before .before .before .before .before .before .before .args .text .now)
+ends c =
     let k = c .before .before .before .before .before .before .before in
     let m = k .before .before .before .before in
     let s = m .before .before .before .before .args .text .now in
-    let h = end-within s _ _ _ (m .before .before .number-in-front .ensures) (m .before .if1 .taken) _ (rest-whole _ s) _ _ _ (k .before .before .number-in-front2 .ensures) (k .before .if2 .taken) _ (rest-whole _ s) _ _ (c .before .before .before .before .before .driver-in-front .ensures) (c .before .before .before .before .if3 .taken) in
-    omega (arith, h)
+    end-within s _ _ _ (m .before .before .number-in-front .ensures) (m .before .if1 .taken) _ (rest-whole _ s) _ _ _ (k .before .before .number-in-front2 .ensures) (k .before .if2 .taken) _ (rest-whole _ s) _ _
+    (c .before .before .before .before .before .driver-in-front .ensures) (c .before .before .before .before .if3 .taken)
+
+add-t25 : tie.Need-add-t25
+add-t25 c = omega (arith, ends c)
 
 add-t26 : tie.Need-add-t26
-add-t26 c =
-    let k = c .before .before .before .before .before .before .before in
-    let m = k .before .before .before .before in
-    let s = m .before .before .before .before .args .text .now in
-    let h = end-within s _ _ _ (m .before .before .number-in-front .ensures) (m .before .if1 .taken) _ (rest-whole _ s) _ _ _ (k .before .before .number-in-front2 .ensures) (k .before .if2 .taken) _ (rest-whole _ s) _ _ (c .before .before .before .before .before .driver-in-front .ensures) (c .before .before .before .before .if3 .taken) in
-    omega (arith, h)
+add-t26 c = omega (arith, ends c)
 
 returns : tie.Need-returns
 returns c =
