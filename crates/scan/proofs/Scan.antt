@@ -5,7 +5,7 @@ use mathlib.Core.List.{List, [], _∷_, _++_, map}
 use Prim.Native.Nat.{ℕ, zero, suc, _<_, _≤_, suc-le-suc}
 use native.Mathlib.Nat.{not-suc-le-zero, le-of-suc-le-suc}
 use native.Mathlib.Omega.{arith}
-use lib.ListN.{length, getD, set}
+use lib.ListN.{length, getD, set, take}
 use borrow.Table.Steps.{cases}
 use Rattle.memory.proofs.Cases.{split-eq}
 use Rattle.scan.specs.Scan.{allOf, every, everyBelow, firstIndex}
@@ -69,6 +69,11 @@ module _ {A : Type 0} (t : A → Bool) where
   every-all [] d h = refl
   every-all (x ∷ xs) d h =
       and-both (t x) (every t xs) (h 0 (omega arith)) (every-all xs d (λ k l. h (suc k) (suc-le-suc l)))
+
+  pub every-take : (n : ℕ) (xs : List A) → every t xs ≡ true → every t (take n xs) ≡ true
+  every-take zero xs e = refl
+  every-take (suc n) [] e = refl
+  every-take (suc n) (x ∷ xs) e = and-both (t x) (every t (take n xs)) (and-left (t x) (every t xs) e) (every-take n xs (and-right (t x) (every t xs) e))
 
   pub every-join : (xs ys : List A) → every t xs ≡ true → every t ys ≡ true → every t (xs ++ ys) ≡ true
   every-join [] ys e f = f

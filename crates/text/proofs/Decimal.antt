@@ -5,10 +5,10 @@ use mathlib.Core.Logic.{_≢_}
 use mathlib.Core.List.{List, [], _∷_, _++_, append-assoc, append-nil}
 use Prim.Native.Nat.{ℕ, zero, suc, _+_, _-_, _*_, _/_, _%_, _^_, _≤_, _<_}
 use native.Mathlib.Omega.{arith}
-use native.Mathlib.Nat.{not-suc-le-zero, pow-succ', pow-suc, pow-le-pow-right, lt-of-lt-of-le}
+use native.Mathlib.Nat.{not-suc-le-zero, pow-succ', pow-suc, pow-le-pow-right, lt-of-lt-of-le, le-trans, le-of-eq, mul-le-mul-right, mul-assoc, suc-add}
 use native.Mathlib.Numerals.{add-one}
 use lib.Dec.{eqb, ltb, leb}
-use lib.ListN.{length, getD, drop, length-append, length-drop, drop-of-length-le}
+use lib.ListN.{length, getD, take, drop, length-append, length-drop, drop-of-length-le}
 use lib.Seq.{drop-cons}
 use borrow.Author.Tests.{eqb-true, eqb-false, eq-eqb, ne-eqb, leb-true, le-leb, lt-leb, lt-ltb, le-ltb, ltb-true, ltb-false}
 use borrow.Table.Steps.{cases}
@@ -39,6 +39,18 @@ is-digit c h k = rw (le-leb 48 c h, le-leb c 57 k)
 pub value-join : (m : ℕ) (xs : List ℕ) (c : ℕ) → valueFrom m (xs ++ (c ∷ [])) ≡ 10 * valueFrom m xs + (c - 48)
 value-join m [] c = refl
 value-join m (x ∷ xs) c = value-join (10 * m + (x - 48)) xs c
+
+-- k digits more, after n
+value-bound : (n : ℕ) (ds : List ℕ) → every isDigit ds ≡ true → valueFrom n ds < (n + 1) * 10 ^ length ds
+value-bound n [] e = omega arith
+value-bound n (c ∷ cs) e =
+    let b = digit-bounds c (and-left (isDigit c) (every isDigit cs) e) in
+    let q = value-bound (10 * n + (c - 48)) cs (and-right (isDigit c) (every isDigit cs) e) in
+    let m : 10 * n + (c - 48) + 1 ≤ (n + 1) * 10 = omega (arith, b) in
+    rw pow-succ' (lt-of-lt-of-le q (le-trans (mul-le-mul-right (10 ^ length cs) m) (le-of-eq (mul-assoc (n + 1) 10 (10 ^ length cs)))))
+
+pub value-small : (ds : List ℕ) → every isDigit ds ≡ true → value ds < 10 ^ length ds
+value-small ds e = omega (arith, value-bound 0 ds e)
 
 -- the digits before i have value n: the rest gives the value of all
 pub record Valued (text : List ℕ) (i n : ℕ) : Type 0 where
@@ -245,6 +257,15 @@ pub record ZerosTo (ds : List ℕ) (i : ℕ) : Type 0 where
 
 pub zeros-none : (ds : List ℕ) → ZerosTo ds 0
 zeros-none ds = record { so-far = omega arith }
+
+-- i zeros before the last digit
+pub zeros-before : (i : ℕ) (ds : List ℕ) → every (λ c. eqb c 48) (take i ds) ≡ true → i < length ds → ZerosTo ds i
+zeros-before zero ds e h = zeros-none ds
+zeros-before (suc i) [] e h = absurd (not-suc-le-zero h)
+zeros-before (suc i) (c ∷ []) e h = absurd (omega arith)
+zeros-before (suc i) (c ∷ d ∷ ds) e h =
+    let p = zeros-before i (d ∷ ds) (and-right (eqb c 48) _ e) (omega arith) .so-far in
+    record { so-far = rw (and-left (eqb c 48) _ e) (ap suc p ∙ sym (suc-add _ _)) }
 
 module _ (ds : List ℕ) (i : ℕ) (z : ZerosTo ds i) where
   -- a digit that is not the last

@@ -1,3 +1,4 @@
 pub mod Ascii
 pub mod Marks
+pub mod Runs
 pub mod Decimal

@@ -2,85 +2,26 @@
 use mathlib.Core.Path.{_≡_, refl, sym, ap, _∙_}
 use mathlib.Core.Bool.{Bool, true, false, _&&_, not, false≢true}
 use mathlib.Core.List.{List, [], _∷_, _++_}
-use Prim.Native.Nat.{ℕ, zero, suc, _+_, _-_, _*_, _%_, _^_, _≤_, _<_}
+use Prim.Native.Nat.{ℕ, zero, suc, _+_, _-_, _*_, _%_, _^_, _≤_, _<_, min}
 use native.Mathlib.Omega.{arith}
 use native.Mathlib.Nat.{pow-succ', pow-le-pow-right, lt-of-lt-of-le}
 use native.Mathlib.Numerals.{add-one}
 use lib.Dec.{eqb, leb, ltb}
 use lib.ListN.{length, getD, take, drop, List·getD-eq-default, drop-of-length-le, take-append-drop}
-use lib.Seq.{take-suc, drop-cons, take-append-seam}
+use lib.Seq.{take-suc, take-take}
 use borrow.Author.Tests.{eqb-true, le-leb, lt-leb, leb-true, ltb-true, ltb-false}
 use borrow.Table.Steps.{cases}
 use Rattle.memory.proofs.Bytes.{length-front}
 use Rattle.scan.specs.Scan.{every}
-use Rattle.scan.proofs.Scan.{every-impl, first-le, first-join}
+use Rattle.scan.proofs.Scan.{every-take}
 use Rattle.scan.proofs.Loops.{searched-next, searched-here}
 use Rattle.text.specs.Decimal.{isDigit, value, isNumeral}
 use Rattle.text.specs.Marks.{LF, comma}
-use Rattle.text.proofs.Decimal.{digit-bounds, is-digit, not-digit-below, not-digit-above, value-join}
+use Rattle.text.proofs.Decimal.{digit-bounds, is-digit, not-digit-below, not-digit-above, value-join, value-small, ZerosTo, zeros-before}
 use Rattle.trip_list.specs.Trip.{greatestNumber, isDriverByte, isNumber, isDriver}
-use Rattle.trip_list.specs.Scanner.{run, front, numberField, driverField, NumberRead, DriverRead}
-
--- ---- runs
-
-pub run-le : (t : ℕ → Bool) (s : List ℕ) → run t s ≤ length s
-unfolding run
-run-le t s = first-le (λ c. not (t c)) s
-
-pub length-run : (t : ℕ → Bool) (s : List ℕ) → length (front t s) ≡ run t s
-unfolding front
-length-run t s = length-front (run t s) s (run-le t s)
-
-pub front-every : (t : ℕ → Bool) (s : List ℕ) → every t (front t s) ≡ true
-unfolding run front
-front-every t [] = refl
-front-every t (x ∷ xs) = cases (t x) (λ e. rw (e, e) (front-every t xs)) (λ e. rw e)
-
--- bytes that pass, before one that does not
-pub run-join : (t : ℕ → Bool) (xs : List ℕ) (y : ℕ) (ys : List ℕ) → every t xs ≡ true → t y ≡ false → run t (xs ++ (y ∷ ys)) ≡ length xs
-unfolding run
-run-join t xs y ys e h = first-join (λ c. not (t c)) xs y ys (every-impl t (λ c. not (not (t c))) (λ c q. rw q) xs e) (rw h)
-
-pub front-join : (t : ℕ → Bool) (xs : List ℕ) (y : ℕ) (ys : List ℕ) → every t xs ≡ true → t y ≡ false → front t (xs ++ (y ∷ ys)) ≡ xs
-unfolding front
-front-join t xs y ys e h = rw (run-join t xs y ys e h) (take-append-seam xs (y ∷ ys))
-
--- a byte other than 0 stands within the list
-pub mark-within : (s : List ℕ) (i c : ℕ) → eqb (getD s i 0) (suc c) ≡ true → i < length s
-mark-within [] i c e = let q : 0 ≡ suc c = eqb-true 0 (suc c) e in absurd (omega arith)
-mark-within (x ∷ xs) zero c e = omega arith
-mark-within (x ∷ xs) (suc i) c e = let h = mark-within xs i c e in omega arith
-
--- a run, the mark after it, and what comes after that
-pub front-split : (t : ℕ → Bool) (s : List ℕ) (c : ℕ) → getD s (run t s) 0 ≡ c → run t s < length s → s ≡ front t s ++ (c ∷ drop (run t s + 1) s)
-unfolding front
-front-split t s c e h = sym (take-append-drop (run t s) s) ∙ rw (drop-cons s (run t s) 0 h, e, add-one)
-
--- ---- a search for the end of a run
-
--- i bytes pass
-pub record Passed (t : ℕ → Bool) (s : List ℕ) (i : ℕ) : Type 0 where
-  pub so-far : run t s ≡ i + run t (drop i s)
-
-pub passed-none : (t : ℕ → Bool) (s : List ℕ) → Passed t s 0
-passed-none t s = record { so-far = omega arith }
-
-module _ (t : ℕ → Bool) (s : List ℕ) (i : ℕ) (p : Passed t s i) where
-  pub passed-here : i < length s → t (getD s i 0) ≡ false → run t s ≡ i
-  unfolding run
-  passed-here h e = sym (searched-here {t = λ c. not (t c)} {xs = s} 0 (record { so-far = p .so-far }) h (rw e))
-
-  pub passed-next : i < length s → t (getD s i 0) ≡ true → Passed t s (i + 1)
-  unfolding run
-  passed-next h e = let q = searched-next {t = λ c. not (t c)} {xs = s} 0 (record { so-far = p .so-far }) h (rw e) in record { so-far = q .so-far }
-
-  pub passed-end : length s ≤ i → run t s ≡ i
-  unfolding run
-  passed-end h = p .so-far ∙ rw (drop-of-length-le s h) (omega arith)
-
-  pub passed-front : run t s ≡ i → front t s ≡ take i s
-  unfolding front
-  passed-front e = rw e
+use Rattle.text.specs.Runs.{run, front}
+use Rattle.text.proofs.Runs.{length-run, front-every, first-few, first-within, first-every, Passed, passed-first, passed-next, passed-here, passed-end, passed-front}
+use Rattle.trip_list.specs.Scanner.{numberField, driverField, NumberRead, DriverRead}
 
 -- ---- a number and the comma after it
 
@@ -96,8 +37,12 @@ pub record Digits (s : List ℕ) (i n : ℕ) : Type 0 where
   pub bound : n < 10 ^ i
   pub few : i ≤ 10
 
-pub digits-none : (s : List ℕ) → Digits s 0 0
-digits-none s = record { passed = passed-none isDigit s; valued = refl; bound = omega arith; few = omega arith }
+-- those among the first eight bytes
+pub digits-first : (s : List ℕ) (i n : ℕ) → i ≡ run isDigit (take 8 s) → n ≡ value (take i s) → Digits s i n
+digits-first s i n e v =
+    let d : every isDigit (take i s) ≡ true = ap (λ (k : ℕ). every isDigit (take k s)) e ∙ first-every isDigit 8 s in
+    let l : length (take i s) ≡ i = length-front i s (omega (arith, first-within isDigit 8 s)) in
+    record { passed = rw e (passed-first isDigit 8 s); valued = v; bound = rw v (rw l at (value-small (take i s) d)); few = omega (arith, first-few isDigit 8 s) }
 
 pub number-false : (s : List ℕ) (n k : ℕ) → false ≡ numberField s → NumberRead s false n k
 number-false s n k e = record { told = e; read = λ h. absurd (false≢true h) }
@@ -153,6 +98,15 @@ module _ (s : List ℕ) (i n : ℕ) (d : Digits s i n) where
 
       pub digits-read : (told : Bool) (v k : ℕ) → told ≡ leb 1 i && (leb n greatestNumber && eqb (getD s i 0) comma) → v ≡ n → k ≡ i → NumberRead s told v k
       digits-read told v k a b f = record { told = a ∙ digits-ended; read = λ _. (b ∙ digits-value, f ∙ digits-run) }
+
+-- ---- zeros before the last digit, among the first eight bytes
+
+pub zeros-first : (s : List ℕ) (digits z i : ℕ) → z ≡ run (λ c. eqb c 48) (take 8 s) → i ≡ min z (digits - 1) → 2 ≤ digits → digits ≤ length s → ZerosTo (take digits s) i
+zeros-first s digits z i e f h l =
+    let isZero : ℕ → Bool = λ c. eqb c 48 in
+    let a : every isZero (take z s) ≡ true = ap (λ (k : ℕ). every isZero (take k s)) e ∙ first-every isZero 8 s in
+    let b : every isZero (take i s) ≡ true = ap (every isZero) (sym (take-take i z s (omega arith))) ∙ every-take isZero i (take z s) a in
+    zeros-before i (take digits s) (ap (every isZero) (take-take i digits s (omega arith)) ∙ b) (omega (arith, length-front digits s l))
 
 -- ---- a driver and the LF after it
 

@@ -12,10 +12,11 @@ use Rattle.scan.proofs.Scan.{and-left, and-right, is-false}
 use Rattle.text.specs.Decimal.{isDigit, value, leadingZeros}
 use Rattle.text.specs.Marks.{LF, comma, fields}
 use Rattle.trip_list.specs.declared.Line as line
+use Rattle.text.specs.Runs.{run, front}
+use Rattle.text.proofs.Runs.{run-join, front-join, mark-within, front-split, length-run}
 use Rattle.trip_list.specs.Trip.{Trip, trip, isDriverByte, isNumber, isDriver, field, lineOf}
 use Rattle.trip_list.specs.Lines.{firstLine, hasLine, firstTrip, lineLength, driverStart}
-use Rattle.trip_list.specs.Scanner.{run, front, fieldBefore, numberField, driverField, NumberRead, DriverRead, LineRead}
-use Rattle.trip_list.proofs.Runs.{run-join, front-join, mark-within, front-split, length-run}
+use Rattle.trip_list.specs.Scanner.{fieldBefore, numberField, driverField, NumberRead, DriverRead, LineRead}
 use Rattle.trip_list.proofs.Lines.{number-digits, driver-every, LF-no-driver, after-mark, Three, minuteOf, metresOf, driverOf, Texts, texts, line-fields, line-has, line-trip, line-length, line-driver}
 
 -- ---- a field, its mark, and what comes after

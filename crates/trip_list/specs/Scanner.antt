@@ -11,6 +11,7 @@ use Rattle.memory.specs.Bytes.{overwrite}
 use Rattle.scan.specs.Scan.{firstIndex}
 use Rattle.text.specs.Decimal.{isDigit, value, leadingZeros}
 use Rattle.text.specs.Marks.{LF, comma}
+use Rattle.text.specs.Runs.{run, front}
 use Rattle.trip_list.specs.declared.Trip as code
 use Rattle.trip_list.specs.declared.Line as line
 use Rattle.trip_list.specs.declared.Step.{Step}
@@ -20,14 +21,7 @@ use Rattle.trip_list.specs.List.{refusal, parseFrom, parse, answerOf, li
 use Rattle.trip_list.specs.Lines.{firstLine, hasLine, firstTrip, lineLength, driverStart, lineStart}
 use Rattle.trip_list.specs.Lookup.{lineTests}
 
--- how many bytes in front pass the test, and these bytes
-unfoldable pub run : (ℕ → Bool) → List ℕ → ℕ
-run t s = firstIndex (λ c. not (t c)) s
-
-unfoldable pub front : (ℕ → Bool) → List ℕ → List ℕ
-front t s = take (run t s) s
-
--- such bytes that are a field, with the mark after them
+-- bytes in front that pass a test and are a field, with the mark after them
 abbrev pub fieldBefore : ℕ → (ℕ → Bool) → (List ℕ → Bool) → List ℕ → Bool
 fieldBefore mark t isField s = isField (front t s) && eqb (getD s (run t s) 0) mark
 

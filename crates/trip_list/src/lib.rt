@@ -59,8 +59,9 @@ fn number_ended(value: usize, digits: usize, mark: u8) -> Number
 fn number_in_front(text: &[u8]) -> Number
     ensures { λ r. ⌜ NumberRead (now (text .entry)) (r .fits) (r .value) (r .digits) ⌝ }
 {
-    let mut value = 0;
-    let mut i = 0;
+    let front = words::number(text);
+    let mut value = front.value;
+    let mut i = front.count;
     while i < text.len() {
         let digit = std::num::wrapping_sub_u8(text[i], b'0');
         if digit > 9 {
@@ -88,7 +89,13 @@ fn leading_zeros(text: &[u8], digits: usize) -> usize
     requires { ⌜ digits ≤ length (now text) ⌝ }
     ensures { λ r. ⌜ r ≡ leadingZeros (take digits (now (text .entry))) ⌝ }
 {
-    let mut i = 0;
+    if digits < 2 {
+        return 0;
+    }
+    if text[0] != b'0' {
+        return 0;
+    }
+    let mut i = number::min(words::zeros(text), digits - 1);
     while i + 1 < digits {
         if text[i] == b'0' {
             i += 1;
@@ -117,7 +124,7 @@ struct Driver {
 fn driver_in_front(text: &[u8]) -> Driver
     ensures { λ r. ⌜ DriverRead (now (text .entry)) (r .fits) (r .letters) ⌝ }
 {
-    let mut i = 0;
+    let mut i = words::letters(text);
     while i < text.len() {
         if is_driver_byte(text[i]) {
             i += 1;

@@ -5,7 +5,8 @@ use native.Mathlib.Omega.{arith}
 use lib.ListN.{length}
 use borrow.Author.Needs.{needs}
 use Rattle.trip_list.specs.Trip.{isDriverByte}
-use Rattle.trip_list.proofs.Runs.{Passed, passed-none, passed-next, driver-false, letters-end, letters-none, letters-many, letters-read}
+use Rattle.text.proofs.Runs.{Passed, passed-first, passed-next}
+use Rattle.trip_list.proofs.Runs.{driver-false, letters-end, letters-none, letters-many, letters-read}
 use Rattle.trip_list.proofs.driver_in_front.Statement.{statement}
 use Rattle.trip_list.proofs.driver_in_front.Tie as tie
 
@@ -16,7 +17,11 @@ abbrev μ-loop : tie.MeasureT-loop
 μ-loop text i₀ i = length text - i
 
 loop-holds : tie.Need-loop-holds Inv-loop μ-loop
-loop-holds c = passed-none isDriverByte _
+unfolding isDriverByte
+loop-holds c = rw (c .letters .ensures) (passed-first isDriverByte 8 _)
+
+letters-requires : tie.Need-letters-requires Inv-loop μ-loop
+letters-requires c κs = search needs
 
 shared-slice-read-is-driver-byte : tie.Need-shared-slice-read-is-driver-byte Inv-loop μ-loop
 shared-slice-read-is-driver-byte c = search needs
@@ -57,6 +62,7 @@ driver-in-front-spec =
     (tie.spec
     Inv-loop
     μ-loop
+    letters-requires
     loop-holds
     shared-slice-read-is-driver-byte
     is-driver-byte-requires

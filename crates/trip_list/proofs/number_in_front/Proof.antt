@@ -6,7 +6,7 @@ use native.Mathlib.Omega.{arith}
 use lib.ListN.{length, getD}
 use borrow.Author.Needs.{needs}
 use Rattle.text.specs.Decimal.{isDigit}
-use Rattle.trip_list.proofs.Runs.{Digits, digits-none, digits-next, digits-small, digits-end, digits-many, digits-read, number-false, digit-found, no-digit-found}
+use Rattle.trip_list.proofs.Runs.{Digits, digits-first, digits-next, digits-small, digits-end, digits-many, digits-read, number-false, digit-found, no-digit-found}
 use Rattle.trip_list.proofs.number_in_front.Statement.{statement}
 use Rattle.trip_list.proofs.number_in_front.Tie as tie
 
@@ -17,12 +17,15 @@ abbrev μ-loop : tie.MeasureT-loop
 μ-loop text value₀ i₀ value i = length text - i
 
 -- the byte at i is a digit
-digit : (c : tie.Else1 Inv-loop μ-loop) → (isDigit (getD (c .before .before .before .before .before .before .args .text .now) (c .before .before .before .before .loop .i) 0) ≡ true)
-    × (c .before .wrapping-sub-u8 .result ≡ getD (c .before .before .before .before .before .before .args .text .now) (c .before .before .before .before .loop .i) 0 - 48)
+digit : (c : tie.Else1 Inv-loop μ-loop) → (isDigit (getD (c .before .before .before .before .before .before .before .args .text .now) (c .before .before .before .before .loop .i) 0) ≡ true)
+    × (c .before .wrapping-sub-u8 .result ≡ getD (c .before .before .before .before .before .before .before .args .text .now) (c .before .before .before .before .loop .i) 0 - 48)
 digit c = digit-found _ _ (c .before .wrapping-sub-u8 .ensures) (omega arith)
 
 loop-holds : tie.Need-loop-holds Inv-loop μ-loop
-loop-holds c = digits-none _
+loop-holds c = let r = c .number .ensures in digits-first _ _ _ (r .0) (r .1)
+
+number-requires : tie.Need-number-requires Inv-loop μ-loop
+number-requires c κs = search needs
 
 shared-slice-read-wrapping-sub-u8 : tie.Need-shared-slice-read-wrapping-sub-u8 Inv-loop μ-loop
 shared-slice-read-wrapping-sub-u8 c = search needs
@@ -40,7 +43,7 @@ returns : tie.Need-returns Inv-loop μ-loop
 returns c =
     let l = c .before .before .before .before .before .before in
     let s = c .before .before .before .wrapping-sub-u8 in
-    let x = getD (l .before .before .args .text .now) (l .loop .i) 0 in
+    let x = getD (l .before .before .before .args .text .now) (l .loop .i) 0 in
     let q = c .number-ended .ensures in
     digits-read _ _ _ (l .loop .inv) (omega arith) (no-digit-found x (s .result) (omega arith) (s .ensures) (omega arith) (omega arith)) _ _ _ (q .0) (q .1) (q .2)
 
@@ -80,6 +83,7 @@ number-in-front-spec =
     (tie.spec
     Inv-loop
     μ-loop
+    number-requires
     loop-holds
     shared-slice-read-wrapping-sub-u8
     wrapping-sub-u8-requires

@@ -1,0 +1,163 @@
+-- Eight tests at once: an operation on a word that works on each byte apart, up to the first byte that fails.
+use mathlib.Core.Path.{_≡_, refl, sym, ap, ap₂, _∙_}
+use mathlib.Core.Bool.{Bool, true, false, not, cond, _&&_, _||_}
+use mathlib.Core.List.{List, [], _∷_}
+use Prim.Native.Nat.{ℕ, zero, suc, _+_, _*_, _/_, _%_, _^_, _≤_, _<_, suc-le-suc, zero-le}
+use native.Mathlib.Omega.{arith}
+use native.Mathlib.Nat.{mod-lt, mod-one, pow-suc, one-le-pow, add-suc, add-zero, zero-add, suc-add, add-comm, div-one, mul-suc, le-trans, le-of-eq}
+use native.Mathlib.Numerals.{add-one}
+use lib.Dec.{eqb, ltb}
+use borrow.Author.Tests.{eqb-true, ltb-true}
+use lib.Arith.{digits-div, digits-mod, mod-mul}
+use lib.Pow.{pow-pos, split, mod-pow-add, shr-shr}
+use lib.Bits.{bitAnd, bitOr, bitXor, and-mod, and-shr, or-mod, or-shr, xor-mod, xor-shr, xor-lt}
+use lib.Count.{trailingZeros}
+use borrow.Table.Steps.{cases}
+use Rattle.memory.proofs.Cases.{split-eq}
+use Rattle.scan.specs.Scan.{everyBelow}
+use Rattle.scan.proofs.Scan.{everyBelow-at, and-left, and-right}
+use Rattle.text.specs.Ascii.{isCapital}
+use Rattle.text.specs.Decimal.{isDigit}
+use Rattle.text.specs.Runs.{run}
+use Rattle.words.specs.Fields.{fields, bytesOf}
+use Rattle.words.specs.Lanes.{copies, plus, noDigit, noCapital, highest}
+
+-- F of n bytes gives f of the lowest byte; where that is below 128, the rest is F of the rest
+pub record Lanewise (F : ℕ → ℕ → ℕ) (f : ℕ → ℕ) : Type 0 where
+  pub low : (n y : ℕ) → F (suc n) y % 256 ≡ f (y % 256)
+  pub high : (n y : ℕ) → y % 256 < 128 → F (suc n) y / 256 ≡ F n (y / 256)
+
+pub lanes-word : Lanewise (λ n y. y) (λ b. b)
+lanes-word = record { low = λ n y. refl; high = λ n y h. refl }
+
+pub lanes-copies : (c : ℕ) → c < 256 → Lanewise (λ n y. copies c n) (λ b. c)
+lanes-copies c h = record { low = λ n y. digits-mod (copies c n) h; high = λ n y _. digits-div (copies c n) h }
+
+byte-pos : 0 < 256
+byte-pos = omega arith
+
+pow-byte : (n : ℕ) → 0 < 256 ^ n
+pow-byte n = one-le-pow n 256 byte-pos
+
+module _ {F G : ℕ → ℕ → ℕ} {f g : ℕ → ℕ} (a : Lanewise F f) (b : Lanewise G g) where
+  pub lanes-and : Lanewise (λ n y. bitAnd (F n y) (G n y)) (λ b. bitAnd (f b) (g b))
+  lanes-and = record {
+    low = λ n y. and-mod (F (suc n) y) (G (suc n) y) 8 ∙ ap₂ bitAnd (a .low n y) (b .low n y);
+    high = λ n y h. and-shr (F (suc n) y) (G (suc n) y) 8 ∙ ap₂ bitAnd (a .high n y h) (b .high n y h);
+  }
+
+  pub lanes-or : Lanewise (λ n y. bitOr (F n y) (G n y)) (λ b. bitOr (f b) (g b))
+  lanes-or = record {
+    low = λ n y. or-mod (F (suc n) y) (G (suc n) y) 8 ∙ ap₂ bitOr (a .low n y) (b .low n y);
+    high = λ n y h. or-shr (F (suc n) y) (G (suc n) y) 8 ∙ ap₂ bitOr (a .high n y h) (b .high n y h);
+  }
+
+  pub lanes-xor : Lanewise (λ n y. bitXor (F n y) (G n y)) (λ b. bitXor (f b) (g b))
+  lanes-xor = record {
+    low = λ n y. xor-mod (F (suc n) y) (G (suc n) y) 8 ∙ ap₂ bitXor (a .low n y) (b .low n y);
+    high = λ n y h. xor-shr (F (suc n) y) (G (suc n) y) 8 ∙ ap₂ bitXor (a .high n y h) (b .high n y h);
+  }
+
+  -- a sum, where no byte below 128 makes one of 256 or more
+  pub lanes-add : ((b : ℕ) → b < 128 → f b + g b < 256) → Lanewise (λ n y. (F n y + G n y) % 256 ^ n) (λ b. (f b + g b) % 256)
+  lanes-add room = record {
+    low = λ n y.
+        let x : ℕ = F (suc n) y + G (suc n) y in
+        let s : x % 256 ≡ (F (suc n) y % 256 + G (suc n) y % 256) % 256 = omega arith in
+        ap (λ (m : ℕ). x % m % 256) (pow-suc 256 n) ∙ ap (λ (m : ℕ). m % 256) (mod-mul x (pow-byte n) byte-pos)
+        ∙ digits-mod (x / 256 % 256 ^ n) (mod-lt x byte-pos) ∙ s ∙ ap₂ (λ (p q : ℕ). (p + q) % 256) (a .low n y) (b .low n y);
+    high = λ n y h.
+        let x : ℕ = F (suc n) y + G (suc n) y in
+        let r = room (y % 256) h in
+        let p = a .low n y in
+        let q = b .low n y in
+        let s : x / 256 ≡ F (suc n) y / 256 + G (suc n) y / 256 = omega arith in
+        ap (λ (m : ℕ). x % m / 256) (pow-suc 256 n) ∙ ap (λ (m : ℕ). m / 256) (mod-mul x (pow-byte n) byte-pos)
+        ∙ digits-div (x / 256 % 256 ^ n) (mod-lt x byte-pos) ∙ ap (λ (m : ℕ). m % 256 ^ n) (s ∙ ap₂ (λ (p q : ℕ). p + q) (a .high n y h) (b .high n y h));
+  }
+
+-- ---- the zeros below the lowest set bit
+
+low-bit : (j x : ℕ) → x % 2 ^ suc j ≡ (x / 2 % 2 ^ j) * 2 + x % 2
+low-bit j x = ap (λ (m : ℕ). x % 2 ^ m) (sym (add-one j)) ∙ mod-pow-add x j 1
+
+-- one of the j lowest bits is set
+trailing-low : (j k x : ℕ) → 0 < x % 2 ^ j → trailingZeros (k + j) x < j
+unfolding trailingZeros
+trailing-low zero k x h = absurd (omega (arith, mod-one x))
+trailing-low (suc j) k x h =
+    let d = low-bit j x in
+    rw (add-suc k j)
+    (split-eq (x % 2) 0
+    (λ e. rw e (suc-le-suc (trailing-low j k (x / 2) (omega arith))))
+    (λ n. let e : x % 2 ≡ 1 = omega (arith, n) in rw e (suc-le-suc zero-le)))
+
+-- none of them is
+trailing-high : (j k x : ℕ) → x % 2 ^ j ≡ 0 → trailingZeros (k + j) x ≡ j + trailingZeros k (x / 2 ^ j)
+unfolding trailingZeros
+trailing-high zero k x h = rw (add-zero k, zero-add, div-one x)
+trailing-high (suc j) k x h =
+    let d = low-bit j x in
+    let e : x % 2 ≡ 0 = omega arith in
+    rw (add-suc k j, e, trailing-high j k (x / 2) (omega arith), suc-add)
+    (ap (λ (m : ℕ). suc (j + trailingZeros k m)) (shr-shr x 1 j ∙ ap (λ (m : ℕ). x / 2 ^ m) (add-comm 1 j ∙ add-one j)))
+
+-- ---- the first byte that fails the test
+
+module _ (F : ℕ → ℕ → ℕ) (f : ℕ → ℕ) (t : ℕ → Bool) (lanes : Lanewise F f)
+    (sorted : everyBelow 256 (λ b. cond (t b) (eqb (f b) 0 && ltb b 128) (ltb 0 (f b))) ≡ true) where
+  told : (b : ℕ) → b < 256 → cond (t b) (eqb (f b) 0 && ltb b 128) (ltb 0 (f b)) ≡ true
+  told = everyBelow-at 256 (λ b. cond (t b) (eqb (f b) 0 && ltb b 128) (ltb 0 (f b))) sorted
+
+  passing : (b : ℕ) → b < 256 → t b ≡ true → (f b ≡ 0) × (b < 128)
+  passing b h e =
+      let q : eqb (f b) 0 && ltb b 128 ≡ true = rw e at (told b h) in
+      (eqb-true (f b) 0 (and-left (eqb (f b) 0) (ltb b 128) q), ltb-true b 128 (and-right (eqb (f b) 0) (ltb b 128) q))
+
+  failing : (b : ℕ) → b < 256 → t b ≡ false → 0 < f b
+  failing b h e = ltb-true 0 (f b) (rw e at (told b h))
+
+  pub first-failing : (n y : ℕ) → trailingZeros (8 * n) (F n y) / 8 ≡ run t (fields 8 n y)
+  unfolding run trailingZeros
+  first-failing zero y = refl
+  first-failing (suc n) y =
+      let b : ℕ = y % 256 in
+      let k = mod-lt y byte-pos in
+      let l = lanes .low n y in
+      cases (t b)
+      (λ e.
+      let p = passing b k e in
+      rw (e, mul-suc 8 n, trailing-high 8 (8 * n) (F (suc n) y) (l ∙ p .0), lanes .high n y (p .1), ← first-failing n (y / 256)) (omega arith))
+      (λ e.
+      let p = trailing-low 8 (8 * n) (F (suc n) y) (le-trans (failing b k e) (le-of-eq (sym l))) in
+      rw (e, mul-suc 8 n) (omega (arith, p)))
+
+-- ---- digits, capital letters, zeros
+
+lanes-plus : {F : ℕ → ℕ → ℕ} {f : ℕ → ℕ} (c : ℕ) → c < 256 → Lanewise F f → ((b : ℕ) → b < 128 → f b + c < 256) → Lanewise (λ n y. plus c n (F n y)) (λ b. (f b + c) % 256)
+lanes-plus c h a room = lanes-add a (lanes-copies c h) room
+
+lanes-digit : Lanewise noDigit (λ b. bitOr b ((bitXor b 48 + 118) % 256))
+unfolding noDigit
+lanes-digit = lanes-or lanes-word (lanes-plus 118 (omega arith) (lanes-xor lanes-word (lanes-copies 48 (omega arith))) (λ b h. omega (arith, xor-lt 7 b 48 h (omega arith))))
+
+lanes-capital : Lanewise noCapital (λ b. bitOr (bitOr b ((bitXor b 64 + 101) % 256)) (bitXor ((bitXor b 64 + 127) % 256) 128))
+unfolding noCapital
+lanes-capital =
+    let letter = lanes-xor lanes-word (lanes-copies 64 (omega arith)) in
+    lanes-or (lanes-or lanes-word (lanes-plus 101 (omega arith) letter (λ b h. omega (arith, xor-lt 7 b 64 h (omega arith))))) (lanes-xor (lanes-plus 127 (omega arith) letter (λ b h. omega (arith, xor-lt 7 b 64 h (omega arith)))) (lanes-copies 128 (omega arith)))
+
+lanes-highest : {F : ℕ → ℕ → ℕ} {f : ℕ → ℕ} → Lanewise F f → Lanewise (λ n y. highest n (F n y)) (λ b. bitAnd (f b) 128)
+lanes-highest a = lanes-and a (lanes-copies 128 (omega arith))
+
+pub digits-counted : (y : ℕ) → trailingZeros 64 (highest 8 (noDigit 8 y)) / 8 ≡ run isDigit (bytesOf y)
+unfolding bytesOf
+digits-counted = first-failing _ _ isDigit (lanes-highest lanes-digit) refl 8
+
+pub letters-counted : (y : ℕ) → trailingZeros 64 (highest 8 (bitAnd (noDigit 8 y) (noCapital 8 y))) / 8 ≡ run (λ c. isDigit c || isCapital c) (bytesOf y)
+unfolding bytesOf
+letters-counted = first-failing _ _ (λ c. isDigit c || isCapital c) (lanes-highest (lanes-and lanes-digit lanes-capital)) refl 8
+
+pub zeros-counted : (y : ℕ) → trailingZeros 64 (bitXor y (copies 48 8)) / 8 ≡ run (λ c. eqb c 48) (bytesOf y)
+unfolding bytesOf
+zeros-counted = first-failing _ _ (λ c. eqb c 48) (lanes-xor lanes-word (lanes-copies 48 (omega arith))) refl 8

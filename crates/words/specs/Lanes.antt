@@ -1,0 +1,25 @@
+-- Tests of n bytes at once: a byte that fails sets its highest bit. One of 128 or more may set bits of those above it too.
+use Prim.Native.Nat.{ℕ, zero, suc, _+_, _*_, _%_, _^_}
+use lib.Bits.{bitAnd, bitOr, bitXor}
+
+-- the byte c in each of them
+abbrev pub copies : ℕ → ℕ → ℕ
+copies c zero = 0
+copies c (suc n) = copies c n * 256 + c
+
+-- c added in each
+abbrev pub plus : ℕ → ℕ → ℕ → ℕ
+plus c n y = (y + copies c n) % 256 ^ n
+
+-- it is no digit
+unfoldable pub noDigit : ℕ → ℕ → ℕ
+noDigit n y = bitOr y (plus 118 n (bitXor y (copies 48 n)))
+
+-- it is no capital letter
+unfoldable pub noCapital : ℕ → ℕ → ℕ
+noCapital n y =
+    let letter = bitXor y (copies 64 n) in
+    bitOr (bitOr y (plus 101 n letter)) (bitXor (plus 127 n letter) (copies 128 n))
+
+abbrev pub highest : ℕ → ℕ → ℕ
+highest n y = bitAnd y (copies 128 n)

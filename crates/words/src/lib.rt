@@ -1,0 +1,131 @@
+// The runs of digits, of zeros and of letters in front of a text, eight bytes at a time.
+ghost use mathlib.Core.Path.{_≡_};
+ghost use mathlib.Core.Bool.{_||_};
+ghost use mathlib.Core.List.{map};
+ghost use Prim.Native.Nat.{_≤_, _/_, _%_};
+ghost use lib.Dec.{eqb};
+ghost use lib.Count.{trailingZeros};
+ghost use lib.ListN.{length, take};
+ghost use Rattle.text.specs.Ascii.{isCapital};
+ghost use Rattle.text.specs.Decimal.{isDigit, value};
+ghost use Rattle.text.specs.Runs.{run};
+ghost use Rattle.words.specs.Fields.{bytesOf, eight, inBase, Gathered};
+ghost use Rattle.words.specs.Lanes.{noDigit, noCapital};
+
+// A word: eight bytes, the first lowest.
+const BYTES: usize = 8;
+
+// In each byte of a word: the digit 0, and the highest bit.
+const ZEROS: u64 = 0x3030303030303030;
+
+const HIGHEST: u64 = 0x8080808080808080;
+
+fn no_digit(word: u64) -> u64
+    ensures { λ r. ⌜ r ≡ noDigit 8 word ⌝ }
+{
+    word | std::num::wrapping_add_u64(word ^ ZEROS, 0x7676767676767676)
+}
+
+fn no_capital(word: u64) -> u64
+    ensures { λ r. ⌜ r ≡ noCapital 8 word ⌝ }
+{
+    let letters = word ^ 0x4040404040404040;
+    let above = std::num::wrapping_add_u64(letters, 0x6565656565656565);
+    let below = std::num::wrapping_add_u64(letters, 0x7f7f7f7f7f7f7f7f) ^ HIGHEST;
+    word | above | below
+}
+
+// The bytes below the one with the lowest set bit.
+fn bytes_below(marks: u64) -> usize
+    ensures { λ r. ⌜ r ≡ trailingZeros 64 marks / 8 ⌝ }
+{
+    (u64::trailing_zeros(marks) / 8) as usize
+}
+
+fn digits_in(word: u64) -> usize
+    ensures { λ r. ⌜ r ≡ run isDigit (bytesOf word) ⌝ }
+{
+    bytes_below(no_digit(word) & HIGHEST)
+}
+
+fn zeros_in(word: u64) -> usize
+    ensures { λ r. ⌜ r ≡ run (λ c. eqb c 48) (bytesOf word) ⌝ }
+{
+    bytes_below(word ^ ZEROS)
+}
+
+fn letters_in(word: u64) -> usize
+    ensures { λ r. ⌜ r ≡ run (λ c. isDigit c || isCapital c) (bytesOf word) ⌝ }
+{
+    bytes_below(no_digit(word) & no_capital(word) & HIGHEST)
+}
+
+// The number of eight digits, a byte without any of their bits counted as 0: neighbours are joined three times.
+fn value_in(word: u64) -> u64
+    ensures { λ r. ⌜ r ≡ inBase 10 0 (map (λ b. b % 16) (bytesOf word)) ⌝ }
+{
+    let digits = word & 0x0f0f0f0f0f0f0f0f;
+    let pairs = (digits & 0x00ff00ff00ff00ff) * 10 + ((digits >> 8) & 0x00ff00ff00ff00ff);
+    let fours = (pairs & 0x0000ffff0000ffff) * 100 + ((pairs >> 16) & 0x0000ffff0000ffff);
+    (fours & 0x00000000ffffffff) * 10000 + ((fours >> 32) & 0x00000000ffffffff)
+}
+
+// ---- texts
+
+// The first n bytes of a text as a word.
+fn gather(text: &[u8], n: usize) -> u64
+    requires { ⌜ (n ≤ 8) × (n ≤ length (now text)) ⌝ }
+    ensures { λ r. ⌜ Gathered (now (text .entry)) n 0 r ⌝ }
+{
+    let mut word = 0u64;
+    let mut i = n;
+    while i > 0 {
+        i -= 1;
+        word = 256 * word + text[i] as u64;
+    }
+    word
+}
+
+// The first eight bytes of a text as a word, with zeros past its end.
+fn word_of(text: &[u8]) -> u64
+    ensures { λ r. ⌜ bytesOf r ≡ eight (now (text .entry)) ⌝ }
+{
+    if text.len() < BYTES {
+        return gather(text, text.len());
+    }
+    gather(text, BYTES)
+}
+
+// The digits in front of a text, eight at most, and their value.
+pub struct Digits {
+    pub count: usize,
+    pub value: usize,
+}
+
+pub fn number(text: &[u8]) -> Digits
+    ensures { λ r. ⌜ (r .count ≡ run isDigit (take 8 (now (text .entry)))) × (r .value ≡ value (take (r .count) (now (text .entry)))) ⌝ }
+{
+    let word = word_of(text);
+    let count = digits_in(word);
+    if count < 1 {
+        return Digits { count, value: 0 };
+    }
+    Digits {
+        count,
+        value: value_in(word << (64 - 8 * count)) as usize,
+    }
+}
+
+// The zeros in front of a text, eight at most.
+pub fn zeros(text: &[u8]) -> usize
+    ensures { λ r. ⌜ r ≡ run (λ c. eqb c 48) (take 8 (now (text .entry))) ⌝ }
+{
+    zeros_in(word_of(text))
+}
+
+// The letters and digits in front of a text, eight at most.
+pub fn letters(text: &[u8]) -> usize
+    ensures { λ r. ⌜ r ≡ run (λ c. isDigit c || isCapital c) (take 8 (now (text .entry))) ⌝ }
+{
+    letters_in(word_of(text))
+}
