@@ -95,12 +95,16 @@ overwrite-fits (x ∷ xs) [] (suc n) h = refl
 overwrite-fits (x ∷ xs) (y ∷ ys) zero h = absurd (omega arith)
 overwrite-fits (x ∷ xs) (y ∷ ys) (suc n) h = ap (λ (l : List ℕ). y ∷ l) (overwrite-fits xs ys n (omega arith))
 
--- the front that was laid over
-pub take-overwrite : (xs ys : List ℕ) (n : ℕ) → n ≤ length xs → n ≤ length ys → take n (overwrite xs 0 (take n ys)) ≡ take n ys
-take-overwrite xs ys zero h k = refl
-take-overwrite [] ys (suc n) h k = absurd (not-suc-le-zero h)
-take-overwrite (x ∷ xs) [] (suc n) h k = absurd (not-suc-le-zero k)
-take-overwrite (x ∷ xs) (y ∷ ys) (suc n) h k = ap (λ (l : List ℕ). y ∷ l) (take-overwrite xs ys n (le-of-suc-le-suc h) (le-of-suc-le-suc k))
+-- the front, up to a byte of what was laid over
+pub take-overwrite : (xs : List ℕ) (a : ℕ) (ys : List ℕ) (n : ℕ) → a + n ≤ length xs → n ≤ length ys → take (a + n) (overwrite xs a ys) ≡ take a xs ++ take n ys
+take-overwrite [] a ys n h k = let e : a ≡ 0 = omega arith in let z : n ≡ 0 = omega arith in rw (e, z)
+take-overwrite (x ∷ xs) (suc a) ys n h k = rw suc-add (ap (λ (l : List ℕ). x ∷ l) (take-overwrite xs a ys n (omega arith) k))
+take-overwrite (x ∷ xs) zero ys zero h k = refl
+take-overwrite (x ∷ xs) zero [] (suc n) h k = absurd (not-suc-le-zero k)
+take-overwrite (x ∷ xs) zero (y ∷ ys) (suc n) h k = rw add-suc (ap (λ (l : List ℕ). y ∷ l) (take-overwrite xs zero ys n (omega arith) (le-of-suc-le-suc k)))
+
+pub take-copied : (xs ys : List ℕ) (n : ℕ) → length ys ≡ n → n ≤ length xs → take n (overwrite xs 0 ys) ≡ ys
+take-copied xs ys n e h = rw zero-add at (take-overwrite xs 0 ys n (omega arith) (omega arith)) ∙ take-all n ys (omega arith)
 
 -- one byte more
 pub overwrite-next : (xs ys : List ℕ) (i : ℕ) → i < length xs → i < length ys → set (overwrite xs 0 (take i ys)) i (getD ys i 0) ≡ overwrite xs 0 (take (i + 1) ys)

@@ -4,7 +4,6 @@ use mathlib.Core.Logic.{_≢_}
 use mathlib.Core.List.{List, [], _∷_, _++_, append-nil, append-assoc}
 use Prim.Native.Nat.{ℕ, _+_, _-_, _*_, _/_, _<_, _≤_, min}
 use native.Mathlib.Omega.{arith}
-use native.Mathlib.Nat.{not-suc-le-zero, le-of-suc-le-suc}
 use native.Mathlib.Numerals.{add-one}
 use lib.Dec.{eqb}
 use lib.ListN.{length, getD, take, length-append}
@@ -15,7 +14,7 @@ use borrow.Table.Steps.{cases}
 use Rattle.answer.specs.declared.Answer.{Answer}
 use Rattle.answer.specs.Coded.{coded, done, SHAPE}
 use Rattle.memory.specs.Bytes.{part, overwrite}
-use Rattle.memory.proofs.Bytes.{overwrite-none, overwrite-join, put-copy}
+use Rattle.memory.proofs.Bytes.{overwrite-none, overwrite-join, take-copied, put-copy}
 use Rattle.memory.proofs.Cases.{split-eq}
 use Rattle.device.specs.Device.{Device}
 use Rattle.device.specs.Admission.{Result, give}
@@ -28,12 +27,6 @@ use Rattle.session_run.specs.Steps.{Stepped}
 
 after-after : (s t : List ℕ) (x : Fed) → after s (after t x) ≡ after (s ++ t) x
 after-after s t x = ap (fed (x .device) (x .line)) (sym (append-assoc s t (x .text)))
-
-take-overwrite : (xs ys : List ℕ) → length ys ≤ length xs → take (length ys) (overwrite xs 0 ys) ≡ ys
-take-overwrite [] [] h = refl
-take-overwrite [] (y ∷ ys) h = absurd (not-suc-le-zero h)
-take-overwrite (x ∷ xs) [] h = refl
-take-overwrite (x ∷ xs) (y ∷ ys) h = ap (λ (l : List ℕ). y ∷ l) (take-overwrite xs ys (le-of-suc-le-suc h))
 
 module _ (P : ℕ) where
   pub feed-join : (xs ys : List ℕ) (d : Device) (p : PartialLine) → after (feed P xs d p .text) (feed P ys (feed P xs d p .device) (feed P xs d p .line)) ≡ feed P (xs ++ ys) d p
@@ -139,7 +132,7 @@ block-fed P input d next p q before out a e room =
 -- and as many bytes as it counts are the text
 pub text-left : (bound : ℕ) (x : Fed) (d : Device) (p : PartialLine) (before after : List ℕ) (n : ℕ) → Stepped bound x d p before after n → bound ≤ length before
     → take n after ≡ x .text
-text-left bound x d p before after n s h = rw (s .bytes, s .count) (take-overwrite before (x .text) (omega (arith, s .fits)))
+text-left bound x d p before after n s h = rw (s .bytes, s .count) (take-copied before (x .text) _ refl (omega (arith, s .fits)))
 
 -- ---- the end of the input
 

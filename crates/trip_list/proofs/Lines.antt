@@ -2,7 +2,7 @@
 use mathlib.Core.Path.{_≡_, refl, sym, ap, _∙_}
 use mathlib.Core.Bool.{true, false}
 use mathlib.Core.List.{List, [], _∷_, _++_, append-assoc}
-use Prim.Native.Nat.{ℕ, _+_, _-_, _≤_, _<_}
+use Prim.Native.Nat.{ℕ, _+_, _≤_, _<_}
 use native.Mathlib.Omega.{arith}
 use native.Mathlib.Numerals.{add-one}
 use lib.Dec.{eqb, ltb, leb}
@@ -23,9 +23,17 @@ use Rattle.trip_list.specs.Lines.{firstLine, hasLine, firstTrip, lineLen
 
 -- ---- texts that are fields
 
-pub driver-every : (d : List ℕ) → isDriver d ≡ true → every isDriverByte d ≡ true
+driver-tests : (d : List ℕ) → isDriver d ≡ true → (length d ≤ 16) × (every isDriverByte d ≡ true)
 unfolding isDriver
-driver-every d e = allOf-at (leb 1 (length d) ∷ leb (length d) 16 ∷ every isDriverByte d ∷ []) e 2
+driver-tests d e =
+    let at = allOf-at (leb 1 (length d) ∷ leb (length d) 16 ∷ every isDriverByte d ∷ []) e in
+    (leb-true (length d) 16 (at 1), at 2)
+
+pub driver-few : (d : List ℕ) → isDriver d ≡ true → length d ≤ 16
+driver-few d e = driver-tests d e .0
+
+pub driver-every : (d : List ℕ) → isDriver d ≡ true → every isDriverByte d ≡ true
+driver-every d e = driver-tests d e .1
 
 -- no byte of a driver is below the digits
 driver-above : (c : ℕ) → isDriverByte c ≡ true → 48 ≤ c
@@ -79,6 +87,9 @@ number-digits m e = numeral 10 greatestNumber m e .digits
 
 pub number-small : (m : List ℕ) → isNumber m ≡ true → value m ≤ greatestNumber
 number-small m e = numeral 10 greatestNumber m e .small
+
+pub number-few : (m : List ℕ) → isNumber m ≡ true → length m ≤ 10
+number-few m e = numeral 10 greatestNumber m e .few
 
 number-letters : (m : List ℕ) → isNumber m ≡ true → every isDriverByte m ≡ true
 number-letters m e = digits-driver m (number-digits m e)

@@ -2,7 +2,7 @@
 use mathlib.Core.Path.{_≡_, sym, ap, _∙_}
 use mathlib.Core.Bool.{true}
 use mathlib.Core.List.{List, [], _∷_, _++_, append-assoc}
-use Prim.Native.Nat.{ℕ, _+_, _-_, _<_}
+use Prim.Native.Nat.{ℕ, _+_, _-_, _≤_, _<_}
 use native.Mathlib.Omega.{arith}
 use lib.ListN.{length, take, drop, length-append, length-drop}
 use lib.Seq.{drop-drop, drop-append-le, drop-append-add, take-at}
@@ -12,7 +12,8 @@ use Rattle.text.specs.Marks.{LF, comma}
 use Rattle.text.proofs.Decimal.{numeral, decimal-value, zeros-below}
 use Rattle.trip_list.specs.Trip.{greatestNumber, isNumber, tripOf, spellTrip}
 use Rattle.trip_list.specs.Lines.{hasLine, firstTrip, lineLength}
-use Rattle.trip_list.proofs.Lines.{minuteOf, metresOf, driverOf, Texts, texts, line-length}
+use Rattle.trip_list.specs.Scanner.{greatestLine}
+use Rattle.trip_list.proofs.Lines.{driver-few, number-few, minuteOf, metresOf, driverOf, Texts, texts, line-length}
 
 -- a number read and printed keeps its digits past the zeros
 number-kept : (m : List ℕ) → isNumber m ≡ true → decimal (value m) ≡ drop (leadingZeros m) m
@@ -51,6 +52,9 @@ module _ (s : List ℕ) (form : hasLine s ≡ true) where
 
   pub parts-length : lineLength s ≡ length (minuteOf s) + length (metresOf s) + length (driverOf s) + 3
   parts-length = ap lineLength (t .whole) ∙ line-length m k d _ (t .three)
+
+  pub line-short : lineLength s ≤ greatestLine
+  line-short = omega (arith, parts-length, number-few m (t .three .minute), number-few k (t .three .metres), driver-few d (t .three .driver))
 
   spell-kept : spellTrip (firstTrip s) ≡ drop minuteZeros m ++ (comma ∷ metresKept)
   unfolding spellTrip firstTrip tripOf

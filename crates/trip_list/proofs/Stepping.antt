@@ -1,23 +1,22 @@
 -- A line at an index of a list: what the code is told of it, and the bytes that its spelling keeps.
 use mathlib.Core.Path.{_≡_, refl, sym, ap, _∙_}
 use mathlib.Core.Bool.{true, false}
-use mathlib.Core.List.{List, _++_}
+use mathlib.Core.List.{List, _++_, append-assoc}
 use Prim.Native.Nat.{ℕ, _+_, _-_, _≤_, _<_}
 use native.Mathlib.Omega.{arith}
 use lib.ListN.{length, take, drop, length-drop}
-use lib.Seq.{drop-drop}
+use lib.Seq.{take-take, take-add, take-append-add, drop-drop}
 use borrow.Author.Tests.{lt-leb}
 use Rattle.answer.specs.Coded.{TRIP-FORM, TRIP-ORDER}
-use Rattle.memory.specs.Bytes.{part, overwrite}
-use Rattle.memory.proofs.Bytes.{length-part, length-overwrite, overwrite-join-at, put-copy}
-use borrow.Rule.Slice.PartMut.{putMid}
+use Rattle.memory.specs.Bytes.{part}
+use Rattle.memory.proofs.Bytes.{length-front}
 use Rattle.trip_list.specs.declared.Line as line
 use Rattle.trip_list.specs.Trip.{greatestNumber, tripOf}
 use Rattle.trip_list.specs.Lines.{hasLine, firstTrip, lineLength, driverStart}
-use Rattle.trip_list.specs.Scanner.{LineRead, LineAt, Stopped, tripAt, spelledLine}
+use Rattle.trip_list.specs.Scanner.{LineRead, greatestLine, LineAt, Stopped, tripAt, spelledLine}
 use Rattle.trip_list.proofs.Lines.{number-small, minuteOf, metresOf, driverOf, texts, line-driver}
 use Rattle.trip_list.proofs.Parsing.{line-some, line-within, from-malformed, from-falling}
-use Rattle.trip_list.proofs.Spelling.{minute-zeros, metres-zeros, minuteZeros, metresZeros, parts-length, spell-shorter, kept-parts}
+use Rattle.trip_list.proofs.Spelling.{minute-zeros, metres-zeros, minuteZeros, metresZeros, parts-length, line-short, spell-shorter, kept-parts}
 
 -- ---- the line that was found
 
@@ -62,6 +61,30 @@ driver-within s e =
     let d : driverStart s ≡ length (minuteOf s) + 1 + (length (metresOf s) + 1) = ap driverStart (t .whole) ∙ line-driver (minuteOf s) (metresOf s) (driverOf s) _ (t .three) in
     omega (arith, d, parts-length s e, first-driver s)
 
+-- ---- ys has the first bytes of xs, and then those of a list from `first` up to `next`
+
+module _ (list xs ys : List ℕ) (first second next end : ℕ) (room : end ≤ length xs) (above : first ≤ second) (below : second ≤ next)
+    (e : take (end + (next - first)) ys ≡ take end xs ++ part list first (next - first)) where
+  -- so it has those up to `second`
+  first-piece : take (end + (second - first)) ys ≡ take end xs ++ part list first (second - first)
+  first-piece =
+      let i : end + (second - first) ≤ end + (next - first) = omega arith in
+      let j : second - first ≤ next - first = omega arith in
+      sym (take-take _ _ ys i)
+      ∙ ap (take (end + (second - first))) e
+      ∙ rw (length-front end xs room) at (take-append-add (take end xs) (part list first (next - first)) (second - first))
+      ∙ ap (λ (o : List ℕ). take end xs ++ o) (take-take _ _ (drop first list) j)
+
+  -- and then the others
+  pub second-piece : take (end + (second - first) + (next - second)) ys ≡ take (end + (second - first)) ys ++ part list second (next - second)
+  second-piece =
+      let n : end + (second - first) + (next - second) ≡ end + (next - first) = omega arith in
+      let k : next - first ≡ second - first + (next - second) = omega arith in
+      let b : first + (second - first) ≡ second = omega arith in
+      let both : part list first (next - first) ≡ part list first (second - first) ++ part list second (next - second) =
+      rw (k, take-add (second - first) (next - second) (drop first list), drop-drop (second - first) first list, b) in
+      rw (n, e, both, first-piece) (sym (append-assoc (take end xs) _ _))
+
 -- ---- where its parts lie
 
 module _ (list : List ℕ) (at : ℕ) (l : line.Line) (a : LineAt list at l) where
@@ -70,6 +93,9 @@ module _ (list : List ℕ) (at : ℕ) (l : line.Line) (a : LineAt list at l) whe
 
   pub line-inside : at + l .length ≤ length list
   line-inside = omega (arith, line-some s, line-within s (a .form), a .read .size, length-drop at list)
+
+  pub length-fits : l .length ≤ greatestLine
+  length-fits = omega (arith, line-short s (a .form), a .read .size)
 
   pub minute-fits : l .minute ≤ greatestNumber
   minute-fits = omega (arith, first-small s (a .form) .0, a .read .minute)
@@ -114,35 +140,19 @@ module _ (list : List ℕ) (at : ℕ) (l : line.Line) (a : LineAt list at l) whe
       ∙ ap (λ (x : List ℕ). part s (l .first) (l .second - l .first) ++ x) (sym (piece (l .third) _ (l .length - l .third) k))
       ∙ rw (← t, ← g, ← f, a .read .size) (kept-parts s (a .form))
 
-  -- both parts, laid one after the other over a buffer
-  pub put-kept : (xs : List ℕ) (end middle : ℕ) → middle ≡ end + (at + l .second - (at + l .first))
-      → overwrite (overwrite xs end (part list (at + l .first) (at + l .second - (at + l .first)))) middle (part list (at + l .third) (at + l .length - (at + l .third)))
-      ≡ overwrite xs end (spelledLine list at)
-  put-kept xs end middle e =
-      let p = part list (at + l .first) (at + l .second - (at + l .first)) in
-      let q = part list (at + l .third) (at + l .length - (at + l .third)) in
-      let n : length p ≡ at + l .second - (at + l .first) = length-part list (at + l .first) _ (omega (arith, first-second, second-third, third-end, line-inside)) in
-      let m : middle ≡ end + length p = omega arith in
-      rw m (sym (overwrite-join-at xs end p q)) ∙ ap (overwrite xs end) kept-at
-
-  -- as the code lays them
-  pub put-pieces : (xs ys zs : List ℕ) (end middle : ℕ) → middle ≡ end + (at + l .second - (at + l .first))
-      → ys ≡ overwrite (part xs end (length xs - end)) 0 (part list (at + l .first) (at + l .second - (at + l .first)))
-      → zs ≡ overwrite (part (putMid end (length xs - end) xs ys) middle (length (putMid end (length xs - end) xs ys) - middle)) 0 (part list (at + l .third) (at + l .length - (at + l .third)))
-      → end + length (spelledLine list at) ≤ length xs
-      → putMid middle (length (putMid end (length xs - end) xs ys) - middle) (putMid end (length xs - end) xs ys) zs ≡ overwrite xs end (spelledLine list at)
-  put-pieces xs ys zs end middle e ey ez room =
+  -- as the code lays them: the whole line from the first on, and the second over it
+  pub put-pieces : (xs ys zs : List ℕ) (end : ℕ) → end ≤ length xs
+      → take (end + (at + l .length - (at + l .first))) ys ≡ take end xs ++ part list (at + l .first) (at + l .length - (at + l .first))
+      → take (end + (at + l .second - (at + l .first)) + (at + l .length - (at + l .third))) zs
+      ≡ take (end + (at + l .second - (at + l .first))) ys ++ part list (at + l .third) (at + l .length - (at + l .third))
+      → take (end + (at + l .second - (at + l .first)) + (at + l .length - (at + l .third))) zs ≡ take end xs ++ spelledLine list at
+  put-pieces xs ys zs end h ey ez =
       let p = part list (at + l .first) (at + l .second - (at + l .first)) in
       let q = part list (at + l .third) (at + l .length - (at + l .third)) in
       let o1 = first-second in
       let o2 = second-third in
       let o3 = third-end in
-      let o4 = line-inside in
-      let n : length p ≡ at + l .second - (at + l .first) = length-part list (at + l .first) _ (omega arith) in
-      let k : length q ≡ at + l .length - (at + l .third) = length-part list (at + l .third) _ (omega arith) in
-      let s = spelled-length in
-      let one : putMid end (length xs - end) xs ys ≡ overwrite xs end p = put-copy end (length xs) xs ys p ey (omega (arith, n, s)) (omega (arith, s)) (omega arith) in
-      let m : length (putMid end (length xs - end) xs ys) ≡ length xs = ap length one ∙ length-overwrite xs end p in
-      put-copy middle (length (putMid end (length xs - end) xs ys)) (putMid end (length xs - end) xs ys) zs q ez (omega (arith, k, m, s)) (omega (arith, m, s)) (omega arith)
-      ∙ ap (λ (o : List ℕ). overwrite o middle q) one
-      ∙ put-kept xs end middle e
+      ez
+      ∙ ap (λ (o : List ℕ). o ++ q) (first-piece list xs ys (at + l .first) (at + l .second) (at + l .length) end h (omega arith) (omega arith) ey)
+      ∙ append-assoc (take end xs) p q
+      ∙ ap (λ (o : List ℕ). take end xs ++ o) kept-at

@@ -1,9 +1,9 @@
 -- A walk over a list, line after line: what the code's loops have shown so far, and what they give at the end.
 use mathlib.Core.Path.{_≡_, refl, sym, ap, _∙_}
-use mathlib.Core.Bool.{true, false, cond, false≢true}
+use mathlib.Core.Bool.{true, cond, false≢true}
 use mathlib.Core.List.{List, [], _∷_, _++_, append-assoc, append-nil}
 use mathlib.Core.Logic.{_≢_}
-use Prim.Native.Nat.{ℕ, zero, suc, _+_, _-_, _≤_, _<_}
+use Prim.Native.Nat.{ℕ, zero, suc, _+_, _≤_, _<_}
 use native.Mathlib.Omega.{arith}
 use native.Mathlib.Nat.{not-suc-le-zero, le-of-suc-le-suc}
 use native.Mathlib.Numerals.{add-one}
@@ -19,7 +19,6 @@ use Rattle.answer.specs.Coded.{Coded, coded, done, codedRefusal, SHAPE, RANGE}
 use Rattle.answer.specs.Admission.{firstRefusal, ifDone}
 use Rattle.answer.proofs.Coded.{refusal-number}
 use Rattle.memory.specs.Bytes.{part, overwrite}
-use Rattle.memory.proofs.Bytes.{length-overwrite, overwrite-none, overwrite-join, overwrite-cut}
 use Rattle.memory.proofs.Cases.{split-eq}
 use Rattle.text.specs.Marks.{LF, comma}
 use Rattle.trip_list.specs.declared.Trip as code
@@ -96,7 +95,7 @@ module _ (list : List ℕ) (at least count : ℕ) (w : Walked list at least coun
     some : 0 < length s
     some = omega (arith, length-drop at list)
 
-    pub spelled-shorter : length (spelledLine list at) ≤ l .length
+    spelled-shorter : length (spelledLine list at) ≤ l .length
     unfolding spelledLine
     spelled-shorter = omega (arith, spell-shorter s (a .form), a .read .size)
 
@@ -147,49 +146,43 @@ module _ (list : List ℕ) (at least count : ℕ) (w : Walked list at least coun
 
 -- ---- spelled out
 
--- the lines before an index, in their one spelling, are laid over the front of xs
-pub record Laid (list : List ℕ) (at least end : ℕ) (xs ys : List ℕ) : Type 0 where
+-- the lines before an index, in their one spelling, stand at the front of xs, up to `end`
+pub record Laid (list : List ℕ) (at least end : ℕ) (xs : List ℕ) : Type 0 where
   pub count : ℕ
   pub walked : Walked list at least count
   pub ends : end ≡ length (spell (walked .passed))
-  pub laid : ys ≡ overwrite xs 0 (spell (walked .passed))
+  pub laid : take end xs ≡ spell (walked .passed)
 
-pub laid-start : (list xs : List ℕ) → Laid list 0 0 0 xs xs
+pub laid-start : (list xs : List ℕ) → Laid list 0 0 0 xs
 unfolding walked-start
-laid-start list xs = record { count = 0; walked = walked-start list; ends = refl; laid = sym (overwrite-none xs 0) }
+laid-start list xs = record { count = 0; walked = walked-start list; ends = refl; laid = refl }
 
-module _ (list : List ℕ) (at least end : ℕ) (xs ys : List ℕ) (w : Laid list at least end xs ys) where
-  pub laid-length : length ys ≡ length xs
-  laid-length = ap length (w .laid) ∙ length-overwrite xs 0 (spell (w .walked .passed))
+module _ (list : List ℕ) (at least end : ℕ) (xs : List ℕ) (w : Laid list at least end xs) where
+  pub laid-shorter : end ≤ at
+  laid-shorter = omega (arith, w .ends, w .walked .shorter)
 
-  module _ (inside : at < length list) (l : line.Line) (a : LineAt list at l) where
-    pub laid-room : length list ≤ length xs → end + length (spelledLine list at) ≤ length ys
-    laid-room h =
-        omega
-        (arith, laid-length, w .ends, w .walked .shorter, spelled-shorter list at least (w .count) (w .walked) inside l a, line-inside list at l a)
+  pub laid-next : at < length list → (l : line.Line) → LineAt list at l → least ≤ l .minute → (e : ℕ) (ys : List ℕ) → e ≡ end + length (spelledLine list at)
+      → take e ys ≡ take end xs ++ spelledLine list at → Laid list (at + l .length) (l .minute + 1) e ys
+  unfolding walked-next
+  laid-next inside l a rises e ys ee ey =
+      let on = walked-on list at least (w .count) (w .walked) inside l a in
+      let before = spell (w .walked .passed) in
+      record {
+        count = w .count + 1;
+        walked = walked-next list at least (w .count) (w .walked) inside l a rises;
+        ends = ee ∙ rw (w .ends) (sym (length-append before (spelledLine list at)) ∙ ap length on);
+        laid = ey ∙ rw (w .laid) on;
+      }
 
-    pub laid-next : least ≤ l .minute → (e : ℕ) (zs : List ℕ) → zs ≡ overwrite ys end (spelledLine list at) → e ≡ end + length (spelledLine list at)
-        → Laid list (at + l .length) (l .minute + 1) e xs zs
-    unfolding walked-next
-    laid-next rises e zs ez ee =
-        let on = walked-on list at least (w .count) (w .walked) inside l a in
-        let before = spell (w .walked .passed) in
-        record {
-          count = w .count + 1;
-          walked = walked-next list at least (w .count) (w .walked) inside l a rises;
-          ends = ee ∙ rw (w .ends) (sym (length-append before (spelledLine list at)) ∙ ap length on);
-          laid = ez ∙ rw (w .laid, w .ends) (sym (overwrite-join xs before (spelledLine list at)) ∙ ap (overwrite xs 0) on);
-        }
-
-  pub laid-end : length list ≤ at → Spelled list xs ys (done end)
+  pub laid-end : length list ≤ at → Spelled list xs (done end)
   laid-end over =
       let all = walked-all list at least (w .count) (w .walked) over in
       record {
         told = ap done (w .ends ∙ ap length (sym all)) ∙ rw (walked-answer list at least (w .count) (w .walked) over);
-        laid = λ n q. w .laid ∙ ap (overwrite xs 0) (sym all);
+        laid = λ n q. let m : n ≡ end = ap (λ (a : Coded). a .count) (sym q) in rw m (w .laid ∙ sym all);
       }
 
-  pub laid-bad : (r : Refusal) → Stopped least (drop at list) (codedRefusal r) → Spelled list xs ys (codedRefusal r)
+  pub laid-bad : (r : Refusal) → Stopped least (drop at list) (codedRefusal r) → Spelled list xs (codedRefusal r)
   laid-bad r b = record { told = rw (walked-bad list at least (w .count) (w .walked) (codedRefusal r) b, refusal-number r); laid = λ n q. refused-done r n q }
 
 -- ---- the trip at a place
@@ -369,7 +362,7 @@ module _ (list buffer : List ℕ) where
         let a = write-answer RANGE (rw (← list-range list l)) in
         (a, rw (← a))
 
-    module _ (short : length list ≤ greatestList) (xs ys : List ℕ) (x : Answer) (p : Spelled list xs ys (coded x)) where
+    module _ (short : length list ≤ greatestList) (xs : List ℕ) (x : Answer) (p : Spelled list xs (coded x)) where
       answered : (y : Answer) → x ≡ y → coded y ≡ writeAnswer list buffer
       answered y e = write-answer (coded y) (sym (ap coded e) ∙ p .told ∙ rw (list-parsed list short))
 
@@ -387,11 +380,6 @@ module _ (list buffer : List ℕ) where
         pub spelled-fits : n ≤ greatestList
         spelled-fits = omega (arith, spelled-count, never-longer list)
 
-        pub write-done : length xs ≡ greatestList → (zs : List ℕ) → zs ≡ overwrite buffer 0 (take n ys) → (done n ≡ writeAnswer list buffer) × (zs ≡ written list buffer)
+        pub write-done : (ys : List ℕ) → ys ≡ overwrite buffer 0 (take n xs) → (done n ≡ writeAnswer list buffer) × (ys ≡ written list buffer)
         unfolding written
-        write-done l zs ez =
-            let a = answered (answers.Done n) e in
-            let w = spelling list in
-            let fits : 0 + length w ≤ length xs = omega (arith, spelled-count, spelled-fits) in
-            let front : take n ys ≡ w = ap (take n) (p .laid n (ap coded e) ∙ overwrite-cut xs 0 w fits) ∙ take-at w _ n (sym spelled-count) in
-            (a, ez ∙ rw (← a, front))
+        write-done ys ey = let a = answered (answers.Done n) e in (a, ey ∙ rw (← a, p .laid n (ap coded e)))

@@ -7,7 +7,6 @@ use lib.Dec.{eqb}
 use lib.ListN.{length, getD, take, drop}
 use Rattle.answer.specs.Coded.{Coded, done, codedRefusal}
 use Rattle.answer.specs.Admission.{firstRefusal, ifDone}
-use Rattle.memory.specs.Bytes.{overwrite}
 use Rattle.scan.specs.Scan.{firstIndex}
 use Rattle.text.specs.Decimal.{isDigit, value, leadingZeros}
 use Rattle.text.specs.Marks.{LF, comma}
@@ -55,6 +54,10 @@ pub record LineRead (s : List ℕ) (l : line.Line) : Type 0 where
   pub told : l .fits ≡ hasLine s
   pub read : l .fits ≡ true → LineFields s l
 
+-- the longest line of the form: two numbers of ten digits, a driver of sixteen letters, and a mark after each
+abbrev pub greatestLine : ℕ
+greatestLine = 39
+
 -- a line of the form starts at the index
 pub record LineAt (list : List ℕ) (at : ℕ) (l : line.Line) : Type 0 where
   pub form : hasLine (drop at list) ≡ true
@@ -86,7 +89,7 @@ pub record Surveyed (list : List ℕ) (place : ℕ) (answer : Coded) (t : code.T
   pub told : answer ≡ listAnswer list
   pub found : (n : ℕ) → answer ≡ done n → place < n → t ≡ tripAt list (lineStart place list)
 
--- one pass that spells: the count of its bytes or the refusal; where it is done, the spelling is laid over the front of xs
-pub record Spelled (list xs ys : List ℕ) (answer : Coded) : Type 0 where
+-- one pass that spells: the count of its bytes or the refusal; where it is done, the spelling stands at the front of xs
+pub record Spelled (list xs : List ℕ) (answer : Coded) : Type 0 where
   pub told : answer ≡ ifDone (answerOf (parse list)) (done (length (spelling list))) (answerOf (parse list))
-  pub laid : (n : ℕ) → answer ≡ done n → ys ≡ overwrite xs 0 (spelling list)
+  pub laid : (n : ℕ) → answer ≡ done n → take n xs ≡ spelling list

@@ -5,20 +5,24 @@ use answer::Answer;
 use answer::Refusal;
 ghost use mathlib.Core.Path.{_≡_};
 ghost use mathlib.Core.Bool.{_&&_, cond};
-ghost use Prim.Native.Nat.{_+_, _≤_, _<_};
+ghost use mathlib.Core.List.{_++_};
+ghost use Prim.Native.Nat.{_+_, _-_, _≤_, _<_};
 ghost use lib.Dec.{eqb, leb};
 ghost use lib.ListN.{length, take};
 ghost use Rattle.answer.specs.Coded.{coded};
-ghost use Rattle.memory.specs.Bytes.{overwrite};
+ghost use Rattle.memory.specs.Bytes.{part, overwrite};
 ghost use Rattle.text.specs.Decimal.{leadingZeros};
 ghost use Rattle.text.specs.Marks.{comma};
 ghost use Rattle.trip_list.specs.Trip.{greatestNumber, isDriverByte};
 ghost use Rattle.trip_list.specs.List.{greatestList, writeAnswer, written};
 ghost use Rattle.trip_list.specs.Lookup.{looked, readTrip, nextTrip};
-ghost use Rattle.trip_list.specs.Scanner.{NumberRead, DriverRead, LineRead, Stepped, LineAt, tripAt, spelledLine, Surveyed, Spelled};
+ghost use Rattle.trip_list.specs.Scanner.{NumberRead, DriverRead, LineRead, Stepped, greatestLine, LineAt, tripAt, spelledLine, Surveyed, Spelled};
 
 // The longest list.
 const MAX_LIST: usize = 4096;
+
+// The longest line: two numbers, a driver, and a mark after each.
+const MAX_LINE: usize = 39;
 
 // The greatest minute and the most metres.
 const MAX_NUMBER: usize = 4294967295;
@@ -356,19 +360,57 @@ pub fn read(list: &[u8], place: usize) -> Lookup
 
 // ---- the writer
 
+// The first bytes of dst become those of src, as many as the longest line has.
+fn copy_window_bytes(dst: &mut [u8], src: &[u8])
+    requires { ⌜ (greatestLine ≤ length (now dst)) × (greatestLine ≤ length (now src)) ⌝ }
+    ensures { λ r. ⌜ now (dst .exit) ≡ overwrite (now (dst .entry)) 0 (take greatestLine (now (src .entry))) ⌝ }
+{
+    let mut i = 0;
+    while i < MAX_LINE {
+        dst[i] = src[i];
+        i += 1;
+    }
+}
+
+// The same by way of an array. No slice overlaps that, so the compiler sees moves of a known length.
+fn copy_window(dst: &mut [u8], src: &[u8])
+    requires { ⌜ (greatestLine ≤ length (now dst)) × (greatestLine ≤ length (now src)) ⌝ }
+    ensures { λ r. ⌜ now (dst .exit) ≡ overwrite (now (dst .entry)) 0 (take greatestLine (now (src .entry))) ⌝ }
+{
+    let mut block = [0u8; MAX_LINE];
+    copy_window_bytes(&mut block, src);
+    copy_window_bytes(dst, &block);
+}
+
+// The bytes of the list from `first` up to `next` are laid over the output from `end` on. What stands after them there may change
+// too: as many bytes as the longest line has are copied where the list has them.
+fn put(output: &mut [u8], end: usize, list: &[u8], first: usize, next: usize)
+    requires { ⌜ (first ≤ next) × (next ≤ first + greatestLine) × (next ≤ length (now list)) × (end ≤ first) × (length (now list) ≤ length (now output)) ⌝ }
+    ensures { λ r. ⌜ take (end + (next - first)) (now (output .exit)) ≡ take end (now (output .entry)) ++ part (now (list .entry)) first (next - first) ⌝ }
+{
+    if list.len() - first >= MAX_LINE {
+        copy_window(&mut output[end..], &list[first..]);
+    } else {
+        memory::copy(&mut output[end..], &list[first..next]);
+    }
+}
+
 // The one spelling of the line that starts at index `at` is laid over the output from `end` on. The index after it comes back.
 fn put_line(list: &[u8], at: usize, line: Line, output: &mut [u8], end: usize) -> usize
-    requires { ⌜ LineAt (now list) at line × (end + length (spelledLine (now list) at) ≤ length (now output)) ⌝ }
-    ensures { λ r. ⌜ (now (output .exit) ≡ overwrite (now (output .entry)) end (spelledLine (now (list .entry)) at))
-        × (r ≡ end + length (spelledLine (now (list .entry)) at)) ⌝ }
+    requires { ⌜ LineAt (now list) at line × (end ≤ at) × (length (now list) ≤ length (now output)) ⌝ }
+    ensures { λ r. ⌜ (r ≡ end + length (spelledLine (now (list .entry)) at))
+        × (take r (now (output .exit)) ≡ take end (now (output .entry)) ++ spelledLine (now (list .entry)) at) ⌝ }
 {
     let first = at + line.first;
     let second = at + line.second;
     let third = at + line.third;
     let next = at + line.length;
     let middle = end + (second - first);
-    memory::copy(&mut output[end..], &list[first..second]);
-    memory::copy(&mut output[middle..], &list[third..next]);
+    put(output, end, list, first, next);
+    // Where no zeros stand before the metres, the first piece has all.
+    if second < third {
+        put(output, middle, list, third, next);
+    }
     middle + (next - third)
 }
 
@@ -376,7 +418,7 @@ fn put_line(list: &[u8], at: usize, line: Line, output: &mut [u8], end: usize) -
 // the number of its bytes.
 fn spell_lines(list: &[u8], output: &mut [u8]) -> Answer
     requires { ⌜ length (now list) ≤ length (now output) ⌝ }
-    ensures { λ r. ⌜ Spelled (now (list .entry)) (now (output .entry)) (now (output .exit)) (coded r) ⌝ }
+    ensures { λ r. ⌜ Spelled (now (list .entry)) (now (output .exit)) (coded r) ⌝ }
 {
     let mut at = 0;
     let mut least = 0;

@@ -1,12 +1,12 @@
 -- `memory::copy_block` meets its contract: the array has the bytes that go on.
-use mathlib.Core.Path.{_≡_, ap, _∙_}
+use mathlib.Core.Path.{ap, _∙_}
 use mathlib.Core.List.{List}
 use Prim.Native.Nat.{ℕ}
 use native.Mathlib.Omega.{arith}
 use lib.ListN.{take, length-replicate}
 use borrow.Author.Needs.{needs}
 use Rattle.memory.specs.Bytes.{zeros, overwrite}
-use Rattle.memory.proofs.Bytes.{take-overwrite}
+use Rattle.memory.proofs.Bytes.{length-front, take-copied}
 use Rattle.memory.proofs.copy_block.Statement.{statement}
 use Rattle.memory.proofs.copy_block.Tie as tie
 
@@ -32,7 +32,7 @@ returns c =
     let d = a .dst .now in
     c .before .before .copy-bytes2 .ensures
     ∙ ap (λ (t : List ℕ). overwrite d 0 (take (a .n) t)) (b .copy-bytes .ensures)
-    ∙ ap (λ (t : List ℕ). overwrite d 0 t) (take-overwrite (zeros 4096) (a .src .now) (a .n) (omega (arith, length-replicate {A = ℕ} 4096 0)) (omega arith))
+    ∙ ap (λ (t : List ℕ). overwrite d 0 t) (take-copied (zeros 4096) _ (a .n) (length-front (a .n) (a .src .now) (omega arith)) (omega (arith, length-replicate {A = ℕ} 4096 0)))
 
 pub copy-block-spec : {M : Type 1} → statement M
 copy-block-spec =

@@ -1,94 +1,67 @@
--- `trip_list::put_line` meets its contract: two parts of the line are copied, one after the other.
-use mathlib.Core.Path.{refl}
+-- `trip_list::put_line` meets its contract: a piece of the line is laid down, and the other after it.
+use mathlib.Core.Logic.{⊎-elim}
+use mathlib.Core.Path.{_≡_, ap}
 use Prim.Native.Nat.{_+_, _≤_}
 use native.Mathlib.Omega.{arith}
 use lib.ListN.{length}
-use borrow.Author.Needs.{needs}
-use Rattle.trip_list.proofs.Stepping.{first-second, second-third, third-end, line-inside, spelled-length, put-pieces}
+use Rattle.trip_list.specs.Scanner.{greatestLine}
+use Rattle.trip_list.proofs.Stepping.{first-second, second-third, third-end, line-inside, length-fits, spelled-length, second-piece, put-pieces}
 use Rattle.trip_list.proofs.put_line.Statement.{statement}
 use Rattle.trip_list.proofs.put_line.Tie as tie
 
--- the parts stand in order, within the list
+-- the pieces stand in order, within the list, and there is room for them
 order : (c : tie.Start) → (c .args .line .first ≤ c .args .line .second) × (c .args .line .second ≤ c .args .line .third) × (c .args .line .third ≤ c .args .line .length)
-    × (c .args .at + c .args .line .length ≤ length (c .args .list .now))
-order c = (first-second _ _ _ (c .pre .0), second-third _ _ _ (c .pre .0), third-end _ _ _ (c .pre .0), line-inside _ _ _ (c .pre .0))
+    × (c .args .at + c .args .line .length ≤ length (c .args .list .now)) × (c .args .line .length ≤ greatestLine)
+    × (c .args .end ≤ c .args .at) × (length (c .args .list .now) ≤ length (c .args .output .now))
+order c = (first-second _ _ _ (c .pre .0), second-third _ _ _ (c .pre .0), third-end _ _ _ (c .pre .0), line-inside _ _ _ (c .pre .0), length-fits _ _ _ (c .pre .0), c .pre .1, c .pre .2)
 
 add-first : tie.Need-add-first
-add-first c = omega (arith, order (c .before .before .before), spelled-length _ _ _ (c .before .before .before .pre .0), c .before .before .before .pre .1)
+add-first c = omega (arith, order (c .before .before .before))
 
 add-second : tie.Need-add-second
-add-second c = omega (arith, order (c .before .before .before .before), spelled-length _ _ _ (c .before .before .before .before .pre .0), c .before .before .before .before .pre .1)
+add-second c = omega (arith, order (c .before .before .before .before))
 
 add-third : tie.Need-add-third
-add-third c = omega (arith, order (c .before .before .before .before .before), spelled-length _ _ _ (c .before .before .before .before .before .pre .0), c .before .before .before .before .before .pre .1)
+add-third c = omega (arith, order (c .before .before .before .before .before))
 
 add-next : tie.Need-add-next
-add-next c = omega (arith, order (c .before .before .before .before .before .before), spelled-length _ _ _ (c .before .before .before .before .before .before .pre .0), c .before .before .before .before .before .before .pre .1)
+add-next c = omega (arith, order (c .before .before .before .before .before .before))
 
 sub-middle : tie.Need-sub-middle
-sub-middle c = omega (arith, order (c .before .before .before .before .before .before), spelled-length _ _ _ (c .before .before .before .before .before .before .pre .0), c .before .before .before .before .before .before .pre .1)
+sub-middle c = omega (arith, order (c .before .before .before .before .before .before))
 
 add-middle : tie.Need-add-middle
-add-middle c = omega (arith, order (c .before .before .before .before .before .before), spelled-length _ _ _ (c .before .before .before .before .before .before .pre .0), c .before .before .before .before .before .before .pre .1)
+add-middle c = omega (arith, order (c .before .before .before .before .before .before))
 
-sub-copy : tie.Need-sub-copy
-sub-copy c = search needs
+put-requires : tie.Need-put-requires
+put-requires c κs = omega (arith, order (c .before .before .before .before .before .before .before))
 
-part-copy-start : tie.Need-part-copy-start
-part-copy-start c = search needs
-
-part-copy-end : tie.Need-part-copy-end
-part-copy-end c = search needs
-
-sub-copy-2 : tie.Need-sub-copy-2
-sub-copy-2 c = omega (arith, order (c .before .before .before .before .before .before .before), spelled-length _ _ _ (c .before .before .before .before .before .before .before .pre .0), c .before .before .before .before .before .before .before .pre .1)
-
-part-copy-start-2 : tie.Need-part-copy-start-2
-part-copy-start-2 c = omega (arith, order (c .before .before .before .before .before .before .before), spelled-length _ _ _ (c .before .before .before .before .before .before .before .pre .0), c .before .before .before .before .before .before .before .pre .1)
-
-part-copy-end-2 : tie.Need-part-copy-end-2
-part-copy-end-2 c = omega (arith, order (c .before .before .before .before .before .before .before), spelled-length _ _ _ (c .before .before .before .before .before .before .before .pre .0), c .before .before .before .before .before .before .before .pre .1)
-
-copy-requires : tie.Need-copy-requires
-copy-requires c κs = search needs
-
-sub-copy-3 : tie.Need-sub-copy-3
-sub-copy-3 c = omega (arith, order (c .before .before .before .before .before .before .before .before .before .before .before), spelled-length _ _ _ (c .before .before .before .before .before .before .before .before .before .before .before .pre .0), c .before .before .before .before .before .before .before .before .before .before .before .pre .1, c .before .before .copy .kept .0)
-
-part-copy-start-3 : tie.Need-part-copy-start-3
-part-copy-start-3 c = omega (arith, order (c .before .before .before .before .before .before .before .before .before .before .before), spelled-length _ _ _ (c .before .before .before .before .before .before .before .before .before .before .before .pre .0), c .before .before .before .before .before .before .before .before .before .before .before .pre .1, c .before .before .copy .kept .0)
-
-part-copy-end-3 : tie.Need-part-copy-end-3
-part-copy-end-3 c = search needs
-
-sub-copy-4 : tie.Need-sub-copy-4
-sub-copy-4 c = omega (arith, order (c .before .before .before .before .before .before .before .before .before .before .before .before), spelled-length _ _ _ (c .before .before .before .before .before .before .before .before .before .before .before .before .pre .0), c .before .before .before .before .before .before .before .before .before .before .before .before .pre .1)
-
-part-copy-start-4 : tie.Need-part-copy-start-4
-part-copy-start-4 c = omega (arith, order (c .before .before .before .before .before .before .before .before .before .before .before .before), spelled-length _ _ _ (c .before .before .before .before .before .before .before .before .before .before .before .before .pre .0), c .before .before .before .before .before .before .before .before .before .before .before .before .pre .1)
-
-part-copy-end-4 : tie.Need-part-copy-end-4
-part-copy-end-4 c = omega (arith, order (c .before .before .before .before .before .before .before .before .before .before .before .before), spelled-length _ _ _ (c .before .before .before .before .before .before .before .before .before .before .before .before .pre .0), c .before .before .before .before .before .before .before .before .before .before .before .before .pre .1)
-
-copy-requires-2 : tie.Need-copy-requires-2
-copy-requires-2 c κs = search needs
+put-requires-2 : tie.Need-put-requires-2
+put-requires-2 c κs = omega (arith, order (c .before .before .before .before .before .before .before .before .before .before .before .before), c .before .before .before .before .put .kept .0)
 
 sub-result : tie.Need-sub-result
-sub-result c = omega (arith, order (c .before .before .before .before .before .before .before .before .before .before .before .before .before .before .before .before), spelled-length _ _ _ (c .before .before .before .before .before .before .before .before .before .before .before .before .before .before .before .before .pre .0), c .before .before .before .before .before .before .before .before .before .before .before .before .before .before .before .before .pre .1)
+sub-result c = omega (arith, order (c .before .before .before .before .before .before .before .before .before .before .before))
 
 add-result : tie.Need-add-result
-add-result c = omega (arith, order (c .before .before .before .before .before .before .before .before .before .before .before .before .before .before .before .before), spelled-length _ _ _ (c .before .before .before .before .before .before .before .before .before .before .before .before .before .before .before .before .pre .0), c .before .before .before .before .before .before .before .before .before .before .before .before .before .before .before .before .pre .1)
+add-result c = omega (arith, order (c .before .before .before .before .before .before .before .before .before .before .before))
 
 same-length : tie.Need-same-length
-same-length c = search needs
+same-length c =
+    let p = c .before .before .before .put .kept .0 in
+    ⊎-elim (λ w. omega (arith, ap length (w .5), w .2 .kept .0, p)) (λ w. omega (arith, ap length (w .1), p)) (c .if1 .came)
 
 returns : tie.Need-returns
 returns c =
-    let k = c .before .before .before .before .before .before .before .before .before .before .before .before .before .before .before .before in
-    let a = k .args in (
-      put-pieces (a .list .now) (a .at) (a .line) (k .pre .0) (a .output .now) (c .before .before .before .before .before .before .before .copy .last .0) (c .before .before .copy2 .last .0) (a .end) _ refl
-          (c .before .before .before .before .before .before .before .copy .ensures) (c .before .before .copy2 .ensures) (k .pre .1),
-      omega (arith, order k, spelled-length _ _ _ (k .pre .0)),
+    let k = c .before .before .before .before .before .before .before .before .before .before .before in
+    let a = k .args in
+    let p = c .before .before .before .put in
+    let o = order k in (
+      omega (arith, o, spelled-length _ _ _ (k .pre .0)),
+      put-pieces (a .list .now) (a .at) (a .line) (k .pre .0) (a .output .now) (p .last .0) (c .if1 .output) (a .end) (omega (arith, o)) (p .ensures)
+          (⊎-elim (λ w. rw (w .5) (w .2 .ensures))
+          (λ w. let q : a .at + a .line .third ≡ a .at + a .line .second = omega (arith, o, w .0) in
+          rw (w .1, q) (second-piece (a .list .now) (a .output .now) _ (a .at + a .line .first) (a .at + a .line .second) (a .at + a .line .length) (a .end) (omega (arith, o)) (omega (arith, o)) (omega (arith, o)) (p .ensures)))
+          (c .if1 .came)),
     )
 
 pub put-line-spec : {M : Type 1} → statement M
@@ -101,20 +74,8 @@ put-line-spec =
     add-next
     sub-middle
     add-middle
-    sub-copy
-    part-copy-start
-    part-copy-end
-    sub-copy-2
-    part-copy-start-2
-    part-copy-end-2
-    copy-requires
-    sub-copy-3
-    part-copy-start-3
-    part-copy-end-3
-    sub-copy-4
-    part-copy-start-4
-    part-copy-end-4
-    copy-requires-2
+    put-requires
+    put-requires-2
     sub-result
     add-result
     same-length

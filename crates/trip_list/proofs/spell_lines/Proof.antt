@@ -6,12 +6,12 @@ use lib.ListN.{length}
 use borrow.Author.Needs.{needs}
 use Rattle.trip_list.specs.Scanner.{LineAt}
 use Rattle.trip_list.proofs.Stepping.{line-inside, minute-fits}
-use Rattle.trip_list.proofs.Walking.{next-after, Laid, laid-start, laid-length, laid-room, laid-next, laid-end, laid-bad, step-line, step-refused}
+use Rattle.trip_list.proofs.Walking.{next-after, Laid, laid-start, laid-shorter, laid-next, laid-end, laid-bad, step-line, step-refused}
 use Rattle.trip_list.proofs.spell_lines.Statement.{statement}
 use Rattle.trip_list.proofs.spell_lines.Tie as tie
 
 abbrev Inv-loop : tie.InvT-loop
-Inv-loop list output₀ at₀ least₀ end₀ output at least end = Laid list at least end output₀ output × (length output ≡ length output₀) × (length list ≤ length output₀)
+Inv-loop list output₀ at₀ least₀ end₀ output at least end = Laid list at least end output × (length output ≡ length output₀) × (length list ≤ length output₀)
 
 abbrev μ-loop : tie.MeasureT-loop
 μ-loop list output₀ at₀ least₀ end₀ output at least end = length list - at
@@ -33,7 +33,7 @@ put-line-requires : tie.Need-put-line-requires Inv-loop μ-loop
 put-line-requires c κs =
     let k = c .before in
     let l = k .before .before .before .before .before .loop in
-    (found k .0, laid-room _ _ _ _ _ _ (l .inv .0) (omega arith) _ (found k .0) (l .inv .2))
+    (found k .0, laid-shorter _ _ _ _ _ (l .inv .0), omega (arith, l .inv))
 
 add-at : tie.Need-add-at Inv-loop μ-loop
 add-at c = omega (arith, line-inside _ _ _ (found (c .before .before .before .before .before) .0))
@@ -53,8 +53,8 @@ loop-again c =
     let l = k .before .before .before .before .before .loop in
     let f = found k in
     let p = c .before .before .before .before .put-line in
-    let n = laid-next _ _ _ _ _ _ (l .inv .0) (omega arith) _ (f .0) (f .1) _ _ (p .ensures .0) (p .ensures .1) in
-    (n, laid-length _ _ _ _ _ _ n, l .inv .2)
+    let n = laid-next _ _ _ _ _ (l .inv .0) (omega arith) _ (f .0) (f .1) _ _ (p .ensures .0) (p .ensures .1) in
+    (n, omega (arith, p .kept, l .inv .1), l .inv .2)
 
 enum-known-refusal : tie.Need-enum-known-refusal Inv-loop μ-loop
 enum-known-refusal c = search needs
@@ -65,13 +65,13 @@ same-length c = search needs
 returns : tie.Need-returns Inv-loop μ-loop
 returns c =
     let l = c .before .before .before .before .before .loop in
-    laid-bad _ _ _ _ _ _ (l .inv .0) (c .before .refusal .given .0 .0) (step-refused _ _ _ (c .before .before .before .line-at .result) (c .before .before .before .line-at .ensures) _ (c .before .refusal .given .1))
+    laid-bad _ _ _ _ _ (l .inv .0) (c .before .refusal .given .0 .0) (step-refused _ _ _ (c .before .before .before .line-at .result) (c .before .before .before .line-at .ensures) _ (c .before .refusal .given .1))
 
 same-length-2 : tie.Need-same-length-2 Inv-loop μ-loop
 same-length-2 c = search needs
 
 returns-2 : tie.Need-returns-2 Inv-loop μ-loop
-returns-2 c = laid-end _ _ _ _ _ _ (c .before .loop .inv .0) (omega arith)
+returns-2 c = laid-end _ _ _ _ _ (c .before .loop .inv .0) (omega arith)
 
 pub spell-lines-spec : {M : Type 1} → statement M
 spell-lines-spec =

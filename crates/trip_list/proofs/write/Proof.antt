@@ -1,11 +1,10 @@
 -- `trip_list::write` meets its contract: the list is spelled into an array, and from there copied to the buffer.
-use mathlib.Core.Path.{_≡_, sym}
-use Prim.Native.Nat.{ℕ, _≤_}
+use mathlib.Core.Path.{sym}
+use Prim.Native.Nat.{_≤_}
 use native.Mathlib.Omega.{arith}
-use lib.ListN.{length, length-replicate}
+use lib.ListN.{length}
 use borrow.Author.Needs.{needs}
 use Rattle.memory.proofs.Bytes.{length-front}
-use Rattle.trip_list.specs.List.{greatestList}
 use Rattle.trip_list.proofs.Walking.{write-shape, write-long, write-refused, spelled-fits, write-done}
 use Rattle.trip_list.proofs.write.Statement.{statement}
 use Rattle.trip_list.proofs.write.Tie as tie
@@ -30,7 +29,7 @@ within : (c : tie.After-copy-arg) → c .before .before .answer .given .0 .0 ≤
 within c =
     let s = c .before .before .before .before .before .spell-lines in
     let a = c .before .before .before .before .before .before .before .before .before .before .before .args in
-    omega (arith, spelled-fits (a .list .now) (a .buffer .now) (omega arith) (omega arith) _ _ (s .result) (s .ensures) _ (c .before .before .answer .given .1), s .kept .1)
+    omega (arith, spelled-fits (a .list .now) (a .buffer .now) (omega arith) (omega arith) _ (s .result) (s .ensures) _ (c .before .before .answer .given .1), s .kept .1)
 
 array-share-prefix-spelled : tie.Need-array-share-prefix-spelled
 array-share-prefix-spelled c = within c
@@ -51,12 +50,12 @@ returns-3 : tie.Need-returns-3
 returns-3 c =
     let s = c .before .before .before .before .before .before .before .before .before .spell-lines in
     let a = c .before .before .before .before .before .before .before .before .before .before .before .before .before .before .before .args in
-    write-done (a .list .now) (a .buffer .now) (omega arith) (omega arith) _ _ (s .result) (s .ensures) _ (c .before .before .before .before .before .before .answer .given .1) (length-replicate {A = ℕ} greatestList 0) _ (c .before .before .copy .ensures)
+    write-done (a .list .now) (a .buffer .now) (omega arith) (omega arith) _ (s .result) (s .ensures) _ (c .before .before .before .before .before .before .answer .given .1) _ (c .before .before .copy .ensures)
 
 returns-4 : tie.Need-returns-4
 returns-4 c =
     let s = c .before .before .before .before .spell-lines in
-    write-refused _ _ (omega arith) (omega arith) _ _ (s .result) (s .ensures) (c .before .answer2 .given .0 .0) (c .before .answer2 .given .1)
+    write-refused _ _ (omega arith) (omega arith) _ (s .result) (s .ensures) (c .before .answer2 .given .0 .0) (c .before .answer2 .given .1)
 
 pub write-spec : {M : Type 1} → statement M
 write-spec =
