@@ -10,6 +10,9 @@ use Rattle.scan.specs.Scan.{allOf, every}
 abbrev pub isDigit : ℕ → Bool
 isDigit c = leb (code "0") c && leb c (code "9")
 
+abbrev pub isZero : ℕ → Bool
+isZero c = eqb c (code "0")
+
 -- the value of decimal digits, where those before them have value n
 abbrev pub valueFrom : ℕ → List ℕ → ℕ
 valueFrom n [] = n

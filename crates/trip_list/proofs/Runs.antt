@@ -8,19 +8,19 @@ use native.Mathlib.Nat.{pow-succ', pow-le-pow-right, lt-of-lt-of-le}
 use native.Mathlib.Numerals.{add-one}
 use lib.Dec.{eqb, leb, ltb}
 use lib.ListN.{length, getD, take, drop, List·getD-eq-default, drop-of-length-le, take-append-drop}
-use lib.Seq.{take-suc, take-take}
-use borrow.Author.Tests.{eqb-true, le-leb, lt-leb, leb-true, ltb-true, ltb-false}
+use lib.Seq.{take-suc, take-take, getD-take}
+use borrow.Author.Tests.{eqb-false, le-leb, lt-leb, leb-true, ltb-true, ltb-false}
 use borrow.Table.Steps.{cases}
 use Rattle.memory.proofs.Bytes.{length-front}
 use Rattle.scan.specs.Scan.{every}
 use Rattle.scan.proofs.Scan.{every-take}
 use Rattle.scan.proofs.Loops.{searched-next, searched-here}
-use Rattle.text.specs.Decimal.{isDigit, value, isNumeral}
+use Rattle.text.specs.Decimal.{isDigit, isZero, value, isNumeral, leadingZeros}
 use Rattle.text.specs.Marks.{LF, comma}
-use Rattle.text.proofs.Decimal.{digit-bounds, is-digit, not-digit-below, not-digit-above, value-join, value-small, ZerosTo, zeros-before}
+use Rattle.text.proofs.Decimal.{digit-bounds, is-digit, not-digit-below, not-digit-above, value-join, value-small, ZerosTo, zeros-before, zeros-stop, zeros-end}
 use Rattle.trip_list.specs.Trip.{greatestNumber, isDriverByte, isNumber, isDriver}
 use Rattle.text.specs.Runs.{run, front}
-use Rattle.text.proofs.Runs.{length-run, front-every, first-few, first-within, first-every, Passed, passed-first, passed-next, passed-here, passed-end, passed-front}
+use Rattle.text.proofs.Runs.{length-run, front-every, first-few, first-within, first-every, first-fails, Passed, passed-first, passed-next, passed-here, passed-end, passed-front}
 use Rattle.trip_list.specs.Scanner.{numberField, driverField, NumberRead, DriverRead}
 
 -- ---- a number and the comma after it
@@ -44,8 +44,8 @@ digits-first s i n e v =
     let l : length (take i s) ≡ i = length-front i s (omega (arith, first-within isDigit 8 s)) in
     record { passed = rw e (passed-first isDigit 8 s); valued = v; bound = rw v (rw l at (value-small (take i s) d)); few = omega (arith, first-few isDigit 8 s) }
 
-pub number-false : (s : List ℕ) (n k : ℕ) → false ≡ numberField s → NumberRead s false n k
-number-false s n k e = record { told = e; read = λ h. absurd (false≢true h) }
+pub number-false : (s : List ℕ) (n k z : ℕ) → false ≡ numberField s → NumberRead s false n k z
+number-false s n k z e = record { told = e; read = λ h. absurd (false≢true h) }
 
 and-none : (a b : Bool) → b ≡ false → false ≡ a && b
 and-none true b e = sym e
@@ -86,8 +86,11 @@ module _ (s : List ℕ) (i n : ℕ) (d : Digits s i n) where
       pub digits-run : i ≡ run isDigit s
       digits-run = sym (passed-here isDigit s i (d .passed) h e)
 
+      digits-front : take i s ≡ front isDigit s
+      digits-front = sym (passed-front isDigit s i (d .passed) (sym digits-run))
+
       pub digits-value : n ≡ value (front isDigit s)
-      digits-value = d .valued ∙ ap value (sym (passed-front isDigit s i (d .passed) (sym digits-run)))
+      digits-value = d .valued ∙ ap value digits-front
 
       pub digits-ended : leb 1 i && (leb n greatestNumber && eqb (getD s i 0) comma) ≡ numberField s
       unfolding numberField isNumeral
@@ -96,17 +99,29 @@ module _ (s : List ℕ) (i n : ℕ) (d : Digits s i n) where
           rw (l, front-every isDigit s, le-leb _ _ (d .few), ← digits-value, ← digits-run)
           (sym (regroup (leb 1 i) (leb n greatestNumber) (eqb (getD s i 0) comma)))
 
-      pub digits-read : (told : Bool) (v k : ℕ) → told ≡ leb 1 i && (leb n greatestNumber && eqb (getD s i 0) comma) → v ≡ n → k ≡ i → NumberRead s told v k
-      digits-read told v k a b f = record { told = a ∙ digits-ended; read = λ _. (b ∙ digits-value, f ∙ digits-run) }
+      pub digits-read : (told : Bool) (z : ℕ) → told ≡ leb 1 i && (leb n greatestNumber && eqb (getD s i 0) comma) → z ≡ leadingZeros (take i s) → NumberRead s told n i z
+      digits-read told z a b = record { told = a ∙ digits-ended; read = λ _. (digits-value, digits-run, b ∙ ap leadingZeros digits-front) }
 
 -- ---- zeros before the last digit, among the first eight bytes
 
-pub zeros-first : (s : List ℕ) (digits z i : ℕ) → z ≡ run (λ c. eqb c 48) (take 8 s) → i ≡ min z (digits - 1) → 2 ≤ digits → digits ≤ length s → ZerosTo (take digits s) i
-zeros-first s digits z i e f h l =
-    let isZero : ℕ → Bool = λ c. eqb c 48 in
-    let a : every isZero (take z s) ≡ true = ap (λ (k : ℕ). every isZero (take k s)) e ∙ first-every isZero 8 s in
-    let b : every isZero (take i s) ≡ true = ap (every isZero) (sym (take-take i z s (omega arith))) ∙ every-take isZero i (take z s) a in
-    zeros-before i (take digits s) (ap (every isZero) (take-take i digits s (omega arith)) ∙ b) (omega (arith, length-front digits s l))
+module _ (s : List ℕ) (digits z i : ℕ) (e : z ≡ run isZero (take 8 s)) (f : i ≡ min z (digits - 1)) (h : 2 ≤ digits) (l : digits ≤ length s) where
+  pub zeros-first : ZerosTo (take digits s) i
+  zeros-first =
+      let a : every isZero (take z s) ≡ true = ap (λ (k : ℕ). every isZero (take k s)) e ∙ first-every isZero 8 s in
+      let b : every isZero (take i s) ≡ true = ap (every isZero) (sym (take-take i z s (omega arith))) ∙ every-take isZero i (take z s) a in
+      zeros-before i (take digits s) (ap (every isZero) (take-take i digits s (omega arith)) ∙ b) (omega (arith, length-front digits s l))
+
+  -- no others where the eighth byte is none of them
+  pub zeros-few : z < 8 → i ≡ leadingZeros (take digits s)
+  zeros-few k =
+      let w = length-front digits s l in
+      cases (ltb (i + 1) digits)
+      (λ q.
+      let m = ltb-true (i + 1) digits q in
+      let n : i ≡ run isZero (take 8 s) = omega arith in
+      let g : isZero (getD s i 0) ≡ false = rw n (first-fails isZero 8 s (omega arith) (omega arith)) in
+      zeros-stop (take digits s) i zeros-first (omega (arith, w)) (λ o. eqb-false (getD s i 0) 48 g (sym (getD-take digits s i 0 (omega arith)) ∙ o)))
+      (λ q. let m = ltb-false (i + 1) digits q in zeros-end (take digits s) i zeros-first (omega (arith, w)))
 
 -- ---- a driver and the LF after it
 

@@ -30,10 +30,10 @@ numberField = fieldBefore comma isDigit isNumber
 unfoldable pub driverField : List ℕ → Bool
 driverField = fieldBefore LF isDriverByte isDriver
 
--- the field in front is a number exactly where `fits`; then these are its value and its digits
-pub record NumberRead (s : List ℕ) (fits : Bool) (n digits : ℕ) : Type 0 where
+-- the field in front is a number exactly where `fits`; then these are its value, its digits and its leading zeros
+pub record NumberRead (s : List ℕ) (fits : Bool) (n digits zeros : ℕ) : Type 0 where
   pub told : fits ≡ numberField s
-  pub read : fits ≡ true → (n ≡ value (front isDigit s)) × (digits ≡ run isDigit s)
+  pub read : fits ≡ true → (n ≡ value (front isDigit s)) × (digits ≡ run isDigit s) × (zeros ≡ leadingZeros (front isDigit s))
 
 pub record DriverRead (s : List ℕ) (fits : Bool) (n : ℕ) : Type 0 where
   pub told : fits ≡ driverField s

@@ -1,12 +1,12 @@
 -- One trip and its line: document 02, §1.
-use mathlib.Core.Bool.{Bool, _||_}
+use mathlib.Core.Bool.{Bool}
 use mathlib.Core.List.{List, [], _∷_, _++_}
 use Prim.Native.Nat.{ℕ}
 use lib.Dec.{eqb, leb}
 use lib.ListN.{length, getD}
 use Rattle.scan.specs.Scan.{allOf, every}
-use Rattle.text.specs.Ascii.{isCapital}
-use Rattle.text.specs.Decimal.{isDigit, value, isNumeral, decimal}
+use Rattle.text.specs.Ascii.{isCapitalOrDigit}
+use Rattle.text.specs.Decimal.{value, isNumeral, decimal}
 use Rattle.text.specs.Marks.{LF, comma, fields}
 
 pub record Trip : Type 0 where
@@ -28,7 +28,7 @@ isNumber = isNumeral 10 greatestNumber
 
 -- drivers: capital letters and digits, at least one and at most sixteen
 unfoldable pub isDriverByte : ℕ → Bool
-isDriverByte c = isDigit c || isCapital c
+isDriverByte = isCapitalOrDigit
 
 unfoldable pub isDriver : List ℕ → Bool
 isDriver text = allOf (leb 1 (length text) ∷ leb (length text) 16 ∷ every isDriverByte text ∷ [])

@@ -11,8 +11,9 @@ ghost use lib.Dec.{eqb, leb};
 ghost use lib.ListN.{length, take};
 ghost use Rattle.answer.specs.Coded.{coded};
 ghost use Rattle.memory.specs.Bytes.{part, overwrite};
-ghost use Rattle.text.specs.Decimal.{leadingZeros};
+ghost use Rattle.text.specs.Decimal.{isZero, leadingZeros};
 ghost use Rattle.text.specs.Marks.{comma};
+ghost use Rattle.text.specs.Runs.{run};
 ghost use Rattle.trip_list.specs.Trip.{greatestNumber, isDriverByte};
 ghost use Rattle.trip_list.specs.List.{greatestList, writeAnswer, written};
 ghost use Rattle.trip_list.specs.Lookup.{looked, readTrip, nextTrip};
@@ -29,53 +30,72 @@ const MAX_NUMBER: usize = 4294967295;
 
 // ---- the fields of a line
 
-// Digits in front of a text. Where they are a number with a comma after it: its value, and how many they are.
+// Digits in front of a text. Where they are a number with a comma after it: its value, how many they are, and its leading zeros.
 struct Number {
     fits: bool,
     value: usize,
     digits: usize,
+    zeros: usize,
 }
 
-fn number_ended(value: usize, digits: usize, mark: u8) -> Number
-    ensures { λ r. ⌜ (r .fits ≡ (leb 1 digits && (leb value greatestNumber && eqb mark comma))) × (r .value ≡ value) × (r .digits ≡ digits) ⌝ }
+// Whether so many digits of this value are a number, with the comma after it.
+fn number_ends(value: usize, digits: usize, mark: u8) -> bool
+    ensures { λ r. ⌜ r ≡ (leb 1 digits && (leb value greatestNumber && eqb mark comma)) ⌝ }
 {
     if digits < 1 {
-        return Number {
-            fits: false,
-            value,
-            digits,
-        };
+        return false;
     }
     if value > MAX_NUMBER {
-        return Number {
-            fits: false,
-            value,
-            digits,
-        };
+        return false;
     }
-    Number {
-        fits: mark == b',',
-        value,
-        digits,
+    mark == b','
+}
+
+// The leading zeros of so many digits, where so many of the first eight bytes are zeros in front. The last digit is no leading zero.
+fn leading_zeros(text: &[u8], digits: usize, zeros: usize) -> usize
+    requires { ⌜ (digits ≤ length (now text)) × (zeros ≡ run isZero (take 8 (now text))) ⌝ }
+    ensures { λ r. ⌜ r ≡ leadingZeros (take digits (now (text .entry))) ⌝ }
+{
+    if digits < 2 {
+        return 0;
     }
+    let mut i = number::min(zeros, digits - 1);
+    if zeros < 8 {
+        return i;
+    }
+    while i + 1 < digits {
+        if text[i] == b'0' {
+            i += 1;
+        } else {
+            return i;
+        }
+    }
+    i
 }
 
 fn number_in_front(text: &[u8]) -> Number
-    ensures { λ r. ⌜ NumberRead (now (text .entry)) (r .fits) (r .value) (r .digits) ⌝ }
+    ensures { λ r. ⌜ NumberRead (now (text .entry)) (r .fits) (r .value) (r .digits) (r .zeros) ⌝ }
 {
     let front = words::number(text);
+    let zeros = front.zeros;
     let mut value = front.value;
     let mut i = front.count;
     while i < text.len() {
         let digit = std::num::wrapping_sub_u8(text[i], b'0');
         if digit > 9 {
-            return number_ended(value, i, text[i]);
+            return Number {
+                fits: number_ends(value, i, text[i]),
+                value,
+                digits: i,
+                zeros: leading_zeros(text, i, zeros),
+            };
         }
         if i == 10 {
             return Number {
                 fits: false,
                 value: 0,
                 digits: 0,
+                zeros: 0,
             };
         }
         value = 10 * value + number::widen(digit);
@@ -85,29 +105,8 @@ fn number_in_front(text: &[u8]) -> Number
         fits: false,
         value: 0,
         digits: 0,
+        zeros: 0,
     }
-}
-
-// The leading zeros of so many digits. The last digit is none of them.
-fn leading_zeros(text: &[u8], digits: usize) -> usize
-    requires { ⌜ digits ≤ length (now text) ⌝ }
-    ensures { λ r. ⌜ r ≡ leadingZeros (take digits (now (text .entry))) ⌝ }
-{
-    if digits < 2 {
-        return 0;
-    }
-    if text[0] != b'0' {
-        return 0;
-    }
-    let mut i = number::min(words::zeros(text), digits - 1);
-    while i + 1 < digits {
-        if text[i] == b'0' {
-            i += 1;
-        } else {
-            return i;
-        }
-    }
-    i
 }
 
 fn is_driver_byte(c: u8) -> bool
@@ -191,9 +190,9 @@ fn line_in_front(text: &[u8]) -> Line
                     fits: true,
                     minute: minute.value,
                     metres: metres.value,
-                    first: leading_zeros(text, minute.digits),
+                    first: minute.zeros,
                     second,
-                    third: second + leading_zeros(&text[second..], metres.digits),
+                    third: second + metres.zeros,
                     driver: driver_start,
                     letters: driver.letters,
                     length: driver_start + driver.letters + 1,

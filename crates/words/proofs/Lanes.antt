@@ -16,8 +16,8 @@ use borrow.Table.Steps.{cases}
 use Rattle.memory.proofs.Cases.{split-eq}
 use Rattle.scan.specs.Scan.{everyBelow}
 use Rattle.scan.proofs.Scan.{everyBelow-at, and-left, and-right}
-use Rattle.text.specs.Ascii.{isCapital}
-use Rattle.text.specs.Decimal.{isDigit}
+use Rattle.text.specs.Ascii.{isCapitalOrDigit}
+use Rattle.text.specs.Decimal.{isDigit, isZero}
 use Rattle.text.specs.Runs.{run}
 use Rattle.words.specs.Fields.{fields, bytesOf}
 use Rattle.words.specs.Lanes.{copies, plus, noDigit, noCapital, highest}
@@ -154,10 +154,10 @@ pub digits-counted : (y : ℕ) → trailingZeros 64 (highest 8 (noDigit 8 y)) / 
 unfolding bytesOf
 digits-counted = first-failing _ _ isDigit (lanes-highest lanes-digit) refl 8
 
-pub letters-counted : (y : ℕ) → trailingZeros 64 (highest 8 (bitAnd (noDigit 8 y) (noCapital 8 y))) / 8 ≡ run (λ c. isDigit c || isCapital c) (bytesOf y)
+pub letters-counted : (y : ℕ) → trailingZeros 64 (highest 8 (bitAnd (noDigit 8 y) (noCapital 8 y))) / 8 ≡ run isCapitalOrDigit (bytesOf y)
 unfolding bytesOf
-letters-counted = first-failing _ _ (λ c. isDigit c || isCapital c) (lanes-highest (lanes-and lanes-digit lanes-capital)) refl 8
+letters-counted = first-failing _ _ isCapitalOrDigit (lanes-highest (lanes-and lanes-digit lanes-capital)) refl 8
 
-pub zeros-counted : (y : ℕ) → trailingZeros 64 (bitXor y (copies 48 8)) / 8 ≡ run (λ c. eqb c 48) (bytesOf y)
+pub zeros-counted : (y : ℕ) → trailingZeros 64 (bitXor y (copies 48 8)) / 8 ≡ run isZero (bytesOf y)
 unfolding bytesOf
-zeros-counted = first-failing _ _ (λ c. eqb c 48) (lanes-xor lanes-word (lanes-copies 48 (omega arith))) refl 8
+zeros-counted = first-failing _ _ isZero (lanes-xor lanes-word (lanes-copies 48 (omega arith))) refl 8

@@ -8,11 +8,9 @@ use native.Mathlib.Nat.{pow-zero, pow-suc, pow-le-pow-right, one-le-pow, lt-of-l
 use lib.Pow.{pow-add}
 use lib.Arith.{digits-div, digits-mod, digits-lt, mod-mul}
 use lib.ListN.{length, getD, take, drop, drop-of-length-le}
-use mathlib.Core.List.{append-nil}
-use lib.Seq.{drop-cons, getD-take, take-take, take-append-le, take-append-add, take-all}
-use Rattle.memory.proofs.Bytes.{length-front, take-replicate}
-use Rattle.memory.proofs.Cases.{split-eq}
-use Rattle.memory.specs.Bytes.{zeros}
+use lib.Seq.{drop-cons, getD-take}
+use Rattle.memory.proofs.Bytes.{length-front, overwrite-whole, overwrite-fits, take-overwrite}
+use Rattle.memory.specs.Bytes.{zeros, overwrite}
 use borrow.Table.Steps.{cases}
 use Rattle.scan.specs.Scan.{every}
 use Rattle.scan.proofs.Scan.{and-left, and-right}
@@ -20,41 +18,37 @@ use Rattle.text.specs.Decimal.{isDigit, valueFrom, value}
 use Rattle.text.specs.Runs.{run}
 use Rattle.text.proofs.Decimal.{digit-bounds}
 use Rattle.text.proofs.Runs.{first-few, first-within, first-every}
-use Rattle.words.specs.Fields.{fields, bytesOf, eight, inBase, Gathered}
+use Rattle.words.specs.Fields.{fields, bytesOf, eight, inBase}
 
-pub gathered-none : (s : List ℕ) (n : ℕ) → n ≤ length s → Gathered s n n 0
-gathered-none s n h =
-    let e : n - n ≡ 0 = omega arith in
-    let l = length-front n s h in
-    record { told = rw (e, drop-of-length-le (take n s) {i = n} (omega (arith, l))); small = rw e (omega arith) }
+-- a loop from the last byte to the first: the word has the bytes from i on, and no others
+pub record Gathered (s : List ℕ) (i word : ℕ) : Type 0 where
+  pub told : fields 8 (8 - i) word ≡ drop i (take 8 s)
+  pub small : word < 256 ^ (8 - i)
 
-module _ (s : List ℕ) (n i word : ℕ) (g : Gathered s n i word) where
-  pub gathered-small : 1 ≤ i → n ≤ 8 → word < 256 ^ 7
-  gathered-small h l = lt-of-lt-of-le (g .small) (pow-le-pow-right {n = 256} (omega arith) {i = n - i} {j = 7} (omega arith))
+pub gathered-none : (s : List ℕ) → 8 ≤ length s → Gathered s 8 0
+gathered-none s h = record { told = sym (drop-of-length-le (take 8 s) {i = 8} (omega (arith, length-front 8 s h))); small = omega arith }
 
-  pub gathered-next : 1 ≤ i → i ≤ n → n ≤ length s → getD s (i - 1) 0 < 256 → Gathered s n (i - 1) (256 * word + getD s (i - 1) 0)
-  gathered-next h l k b =
-      let e : n - (i - 1) ≡ suc (n - i) = omega arith in
+pub gathered-all : (s : List ℕ) (word : ℕ) → Gathered s 0 word → bytesOf word ≡ take 8 s
+unfolding bytesOf
+gathered-all s word g = g .told
+
+module _ (s : List ℕ) (i word : ℕ) (g : Gathered s i word) (h : 1 ≤ i) where
+  pub gathered-small : word < 256 ^ 7
+  gathered-small = lt-of-lt-of-le (g .small) (pow-le-pow-right {n = 256} (omega arith) {i = 8 - i} {j = 7} (omega arith))
+
+  pub gathered-next : i ≤ 8 → 8 ≤ length s → getD s (i - 1) 0 < 256 → Gathered s (i - 1) (256 * word + getD s (i - 1) 0)
+  gathered-next l k b =
+      let e : 8 - (i - 1) ≡ suc (8 - i) = omega arith in
       let f : 256 * word + getD s (i - 1) 0 ≡ word * 256 + getD s (i - 1) 0 = omega arith in
       let j : suc (i - 1) ≡ i = omega arith in
-      let w = length-front n s k in
+      let w = length-front 8 s k in
       record {
-        told = rw (e, f, digits-mod word b, digits-div word b, drop-cons (take n s) (i - 1) 0 (omega (arith, w)), getD-take n s (i - 1) 0 (omega arith), j)
+        told = rw (e, f, digits-mod word b, digits-div word b, drop-cons (take 8 s) (i - 1) 0 (omega (arith, w)), getD-take 8 s (i - 1) 0 (omega arith), j)
             (ap (λ (xs : List ℕ). getD s (i - 1) 0 ∷ xs) (g .told));
-        small = rw (e, f, pow-suc 256 (n - i)) (digits-lt (g .small) b);
+        small = rw (e, f, pow-suc 256 (8 - i)) (digits-lt (g .small) b);
       }
 
 -- ---- the fields of a word
-
-fields-none : (n : ℕ) → fields 8 n 0 ≡ zeros n
-fields-none zero = refl
-fields-none (suc n) = ap (λ (xs : List ℕ). 0 ∷ xs) (fields-none n)
-
--- no bytes but the n lowest
-fields-more : (n k y : ℕ) → y < 256 ^ n → fields 8 (n + k) y ≡ fields 8 n y ++ zeros k
-fields-more zero k y h = let e : y ≡ 0 = omega (arith, pow-zero 256) in rw (e, zero-add k) (fields-none k)
-fields-more (suc n) k y h =
-    rw (suc-add n k) (ap (λ (xs : List ℕ). y % 256 ∷ xs) (fields-more n k (y / 256) (div-lt-iff-lt-mul {k = 256} (omega arith) .1 (rw (pow-suc 256 n) at h))))
 
 -- the lower fields
 fields-take : (m n y : ℕ) → m ≤ n → take m (fields 8 n y) ≡ fields 8 m y
@@ -81,35 +75,24 @@ fields-shift (suc k) m y =
 
 -- ---- the first eight bytes of a text
 
--- a text of at least eight bytes, or all of one with zeros after it
-pub gathered-word : (s : List ℕ) (n word : ℕ) → Gathered s n 0 word → n ≤ 8 → n ≤ length s → (n < 8 → n ≡ length s) → bytesOf word ≡ eight s
-unfolding bytesOf eight
-gathered-word s n word g h l short =
-    let z : n - 0 ≡ n = omega arith in
-    let k : 8 ≡ n + (8 - n) = omega arith in
-    ap (λ (m : ℕ). fields 8 m word) k ∙ fields-more n (8 - n) word (rw z at (g .small))
-    ∙ ap (λ (xs : List ℕ). xs ++ zeros (8 - n)) (rw z at (g .told)) ∙ padded
-  where
-    padded : take n s ++ zeros (8 - n) ≡ take 8 (s ++ zeros 8)
-    padded = split-eq n 8
-        (λ e. rw (e, append-nil (take 8 s)) (sym (take-append-le 8 s (zeros 8) (omega arith))))
-        (λ k.
-        let e : n ≡ length s = short (omega (arith, k)) in
-        let f : 8 ≡ length s + (8 - n) = omega arith in
-        ap₂ _++_ (take-all n s (omega arith)) (sym (take-replicate (8 - n) 8 0 (omega arith)))
-        ∙ sym (ap (λ (m : ℕ). take m (s ++ zeros 8)) f ∙ take-append-add s (zeros 8) (8 - n)))
+pub eight-long : (s : List ℕ) → 8 ≤ length s → take 8 s ≡ eight s
+unfolding eight
+eight-long s h = sym (overwrite-whole (zeros 8) (take 8 s) (length-front 8 s h)) ∙ overwrite-fits (zeros 8) s 8 (omega arith)
+
+eight-take : (s : List ℕ) (n : ℕ) → n ≤ 8 → n ≤ length s → take n (eight s) ≡ take n s
+unfolding eight
+eight-take s n h l = rw (zero-add n) at (take-overwrite (zeros 8) 0 s n (omega arith) l)
 
 -- zeros after a text, where 0 fails the test
-run-padded : (t : ℕ → Bool) → t 0 ≡ false → (n m : ℕ) (s : List ℕ) → run t (take n (s ++ zeros m)) ≡ run t (take n s)
+run-padded : (t : ℕ → Bool) → t 0 ≡ false → (n : ℕ) (s : List ℕ) → run t (overwrite (zeros n) 0 s) ≡ run t (take n s)
 unfolding run
-run-padded t e zero m s = refl
-run-padded t e (suc n) zero [] = refl
-run-padded t e (suc n) (suc m) [] = rw e
-run-padded t e (suc n) m (x ∷ xs) = cases (t x) (λ q. rw q (ap suc (run-padded t e n m xs))) (λ q. rw q)
+run-padded t e zero s = refl
+run-padded t e (suc n) [] = rw e
+run-padded t e (suc n) (x ∷ xs) = cases (t x) (λ q. rw q (ap suc (run-padded t e n xs))) (λ q. rw q)
 
 pub run-eight : (t : ℕ → Bool) → t 0 ≡ false → (s : List ℕ) → run t (eight s) ≡ run t (take 8 s)
 unfolding eight
-run-eight t e s = run-padded t e 8 8 s
+run-eight t e s = run-padded t e 8 s
 
 -- ---- the value of digits
 
@@ -131,7 +114,7 @@ pow-bytes (suc k) = ap (λ (x : ℕ). 2 ^ x) (mul-suc 8 k) ∙ pow-add 2 (8 * k)
 -- so many digits in front, moved to the highest bytes of a word
 pub value-in-front : (s : List ℕ) (n word : ℕ) → bytesOf word ≡ eight s → n ≡ run isDigit (take 8 s)
     → inBase 10 0 (map (λ b. b % 16) (bytesOf (word * 2 ^ (64 - 8 * n) % 2 ^ 64))) ≡ value (take n s)
-unfolding bytesOf eight
+unfolding bytesOf
 value-in-front s n word w e =
     let m : n ≤ 8 = omega (arith, first-few isDigit 8 s) in
     let q : n ≤ length s = omega (arith, first-within isDigit 8 s) in
@@ -141,5 +124,5 @@ value-in-front s n word w e =
     let f : fields 8 8 (word * 2 ^ (64 - 8 * n) % 2 ^ 64) ≡ zeros (8 - n) ++ take n s =
     fields-mod 8 (word * 2 ^ (64 - 8 * n)) ∙ ap₂ (λ (x y : ℕ). fields 8 x (word * y)) v (ap (λ (x : ℕ). 2 ^ x) u ∙ pow-bytes (8 - n))
     ∙ fields-shift (8 - n) n word
-    ∙ ap (λ (xs : List ℕ). zeros (8 - n) ++ xs) (sym (fields-take n 8 word m) ∙ ap (take n) w ∙ take-take n 8 (s ++ zeros 8) m ∙ take-append-le n s (zeros 8) q) in
+    ∙ ap (λ (xs : List ℕ). zeros (8 - n) ++ xs) (sym (fields-take n 8 word m) ∙ ap (take n) w ∙ eight-take s n m q) in
     ap (λ (xs : List ℕ). inBase 10 0 (map (λ b. b % 16) xs)) f ∙ value-zeros (8 - n) (take n s) ∙ value-digits 0 (take n s) d

@@ -1,15 +1,13 @@
 // The runs of digits, of zeros and of letters in front of a text, eight bytes at a time.
 ghost use mathlib.Core.Path.{_≡_};
-ghost use mathlib.Core.Bool.{_||_};
 ghost use mathlib.Core.List.{map};
 ghost use Prim.Native.Nat.{_≤_, _/_, _%_};
-ghost use lib.Dec.{eqb};
 ghost use lib.Count.{trailingZeros};
 ghost use lib.ListN.{length, take};
-ghost use Rattle.text.specs.Ascii.{isCapital};
-ghost use Rattle.text.specs.Decimal.{isDigit, value};
+ghost use Rattle.text.specs.Ascii.{isCapitalOrDigit};
+ghost use Rattle.text.specs.Decimal.{isDigit, isZero, value};
 ghost use Rattle.text.specs.Runs.{run};
-ghost use Rattle.words.specs.Fields.{bytesOf, eight, inBase, Gathered};
+ghost use Rattle.words.specs.Fields.{bytesOf, eight, inBase};
 ghost use Rattle.words.specs.Lanes.{noDigit, noCapital};
 
 // A word: eight bytes, the first lowest.
@@ -49,13 +47,13 @@ fn digits_in(word: u64) -> usize
 }
 
 fn zeros_in(word: u64) -> usize
-    ensures { λ r. ⌜ r ≡ run (λ c. eqb c 48) (bytesOf word) ⌝ }
+    ensures { λ r. ⌜ r ≡ run isZero (bytesOf word) ⌝ }
 {
     bytes_below(word ^ ZEROS)
 }
 
 fn letters_in(word: u64) -> usize
-    ensures { λ r. ⌜ r ≡ run (λ c. isDigit c || isCapital c) (bytesOf word) ⌝ }
+    ensures { λ r. ⌜ r ≡ run isCapitalOrDigit (bytesOf word) ⌝ }
 {
     bytes_below(no_digit(word) & no_capital(word) & HIGHEST)
 }
@@ -72,13 +70,13 @@ fn value_in(word: u64) -> u64
 
 // ---- texts
 
-// The first n bytes of a text as a word.
-fn gather(text: &[u8], n: usize) -> u64
-    requires { ⌜ (n ≤ 8) × (n ≤ length (now text)) ⌝ }
-    ensures { λ r. ⌜ Gathered (now (text .entry)) n 0 r ⌝ }
+// The first eight bytes of a text as a word.
+fn gather(text: &[u8]) -> u64
+    requires { ⌜ 8 ≤ length (now text) ⌝ }
+    ensures { λ r. ⌜ bytesOf r ≡ take 8 (now (text .entry)) ⌝ }
 {
     let mut word = 0u64;
-    let mut i = n;
+    let mut i = BYTES;
     while i > 0 {
         i -= 1;
         word = 256 * word + text[i] as u64;
@@ -86,46 +84,49 @@ fn gather(text: &[u8], n: usize) -> u64
     word
 }
 
-// The first eight bytes of a text as a word, with zeros past its end.
+// The same with zeros past its end.
 fn word_of(text: &[u8]) -> u64
     ensures { λ r. ⌜ bytesOf r ≡ eight (now (text .entry)) ⌝ }
 {
     if text.len() < BYTES {
-        return gather(text, text.len());
+        let mut bytes = [0u8; BYTES];
+        memory::copy(&mut bytes, text);
+        return gather(&bytes);
     }
-    gather(text, BYTES)
+    gather(text)
 }
 
-// The digits in front of a text, eight at most, and their value.
+// The digits in front of a text, eight at most: how many of them are leading zeros, how many they are, and their value.
 pub struct Digits {
+    pub zeros: usize,
     pub count: usize,
     pub value: usize,
 }
 
 pub fn number(text: &[u8]) -> Digits
-    ensures { λ r. ⌜ (r .count ≡ run isDigit (take 8 (now (text .entry)))) × (r .value ≡ value (take (r .count) (now (text .entry)))) ⌝ }
+    ensures { λ r. ⌜ (r .zeros ≡ run isZero (take 8 (now (text .entry)))) × (r .count ≡ run isDigit (take 8 (now (text .entry))))
+        × (r .value ≡ value (take (r .count) (now (text .entry)))) ⌝ }
 {
     let word = word_of(text);
+    let zeros = zeros_in(word);
     let count = digits_in(word);
     if count < 1 {
-        return Digits { count, value: 0 };
+        return Digits {
+            zeros,
+            count,
+            value: 0,
+        };
     }
     Digits {
+        zeros,
         count,
         value: value_in(word << (64 - 8 * count)) as usize,
     }
 }
 
-// The zeros in front of a text, eight at most.
-pub fn zeros(text: &[u8]) -> usize
-    ensures { λ r. ⌜ r ≡ run (λ c. eqb c 48) (take 8 (now (text .entry))) ⌝ }
-{
-    zeros_in(word_of(text))
-}
-
-// The letters and digits in front of a text, eight at most.
+// The capital letters and digits in front of a text, eight at most.
 pub fn letters(text: &[u8]) -> usize
-    ensures { λ r. ⌜ r ≡ run (λ c. isDigit c || isCapital c) (take 8 (now (text .entry))) ⌝ }
+    ensures { λ r. ⌜ r ≡ run isCapitalOrDigit (take 8 (now (text .entry))) ⌝ }
 {
     letters_in(word_of(text))
 }

@@ -1,5 +1,5 @@
 -- `trip_list::leading_zeros` meets its contract: i zeros are counted.
-use mathlib.Core.Path.{_≡_, sym, _∙_}
+use mathlib.Core.Path.{sym, _∙_}
 use Prim.Native.Nat.{_≤_, _-_}
 use native.Mathlib.Omega.{arith}
 use lib.ListN.{length, take}
@@ -7,33 +7,21 @@ use lib.Seq.{getD-take}
 use borrow.Author.Needs.{needs}
 use Rattle.memory.proofs.Bytes.{length-front}
 use Rattle.text.proofs.Decimal.{ZerosTo, zeros-none, zeros-next, zeros-stop, zeros-end}
-use Rattle.trip_list.proofs.Runs.{zeros-first}
+use Rattle.trip_list.proofs.Runs.{zeros-first, zeros-few}
 use Rattle.trip_list.proofs.leading_zeros.Statement.{statement}
 use Rattle.trip_list.proofs.leading_zeros.Tie as tie
 
 abbrev Inv-loop : tie.InvT-loop
-Inv-loop text digits i₀ i = ZerosTo (take digits text) i × (i ≤ digits) × (digits ≤ length text)
+Inv-loop text digits zeros i₀ i = ZerosTo (take digits text) i × (i ≤ digits) × (digits ≤ length text)
 
 abbrev μ-loop : tie.MeasureT-loop
-μ-loop text digits i₀ i = digits - i
+μ-loop text digits zeros i₀ i = digits - i
 
 returns : tie.Need-returns Inv-loop μ-loop
 returns c =
     let a = c .before .before in
     let ds = take (a .args .digits) (a .args .text .now) in
-    zeros-end ds 0 (zeros-none ds) (omega (arith, length-front (a .args .digits) (a .args .text .now) (a .pre)))
-
-shared-slice-read-if2 : tie.Need-shared-slice-read-if2 Inv-loop μ-loop
-shared-slice-read-if2 c = omega (arith, c .before .before .before .pre)
-
-returns-2 : tie.Need-returns-2 Inv-loop μ-loop
-returns-2 c =
-    let a = c .before .before .before .before in
-    let ds = take (a .args .digits) (a .args .text .now) in
-    zeros-stop ds 0 (zeros-none ds) (omega (arith, length-front (a .args .digits) (a .args .text .now) (a .pre))) (λ q. c .if2 .taken (sym (getD-take (a .args .digits) (a .args .text .now) 0 0 (omega arith)) ∙ q))
-
-zeros-requires : tie.Need-zeros-requires Inv-loop μ-loop
-zeros-requires c κs = search needs
+    zeros-end ds 0 (zeros-none ds) (omega (arith, length-front (a .args .digits) (a .args .text .now) (a .pre .0)))
 
 sub-min : tie.Need-sub-min Inv-loop μ-loop
 sub-min c = search needs
@@ -41,10 +29,13 @@ sub-min c = search needs
 min-requires : tie.Need-min-requires Inv-loop μ-loop
 min-requires c κs = search needs
 
+returns-2 : tie.Need-returns-2 Inv-loop μ-loop
+returns-2 c = let a = c .before .before .before .before in zeros-few _ _ _ _ (a .pre .1) (c .before .min .ensures) (omega arith) (a .pre .0) (omega arith)
+
 loop-holds : tie.Need-loop-holds Inv-loop μ-loop
 loop-holds c =
-    let a = c .before .before .before .before .before .before in
-    (zeros-first _ _ _ _ (c .before .zeros .ensures) (c .min .ensures) (omega arith) (a .pre), omega (arith, c .min .ensures), a .pre)
+    let a = c .before .before .before .before in
+    (zeros-first _ _ _ _ (a .pre .1) (c .before .min .ensures) (omega arith) (a .pre .0), omega (arith, c .before .min .ensures), a .pre .0)
 
 add-loop : tie.Need-add-loop Inv-loop μ-loop
 add-loop c = search needs
@@ -61,21 +52,21 @@ loop-less c = search needs
 loop-again : tie.Need-loop-again Inv-loop μ-loop
 loop-again c =
     let l = c .before .before .before in
-    let a = l .before .before .before .before .before .before .before .args in
+    let a = l .before .before .before .before .before .args in
     let n = length-front (a .digits) (a .text .now) (l .loop .inv .2) in
     (zeros-next _ _ (l .loop .inv .0) (omega (arith, n)) (getD-take (a .digits) (a .text .now) (l .loop .i) 0 (omega arith) ∙ c .if3 .taken), omega arith, l .loop .inv .2)
 
 returns-3 : tie.Need-returns-3 Inv-loop μ-loop
 returns-3 c =
     let l = c .before .before .before in
-    let a = l .before .before .before .before .before .before .before .args in
+    let a = l .before .before .before .before .before .args in
     let n = length-front (a .digits) (a .text .now) (l .loop .inv .2) in
     zeros-stop _ _ (l .loop .inv .0) (omega (arith, n)) (λ q. c .if3 .left (sym (getD-take (a .digits) (a .text .now) (l .loop .i) 0 (omega arith)) ∙ q))
 
 returns-4 : tie.Need-returns-4 Inv-loop μ-loop
 returns-4 c =
     let l = c .before in
-    let a = l .before .before .before .before .before .before .before .args in
+    let a = l .before .before .before .before .before .args in
     let n = length-front (a .digits) (a .text .now) (l .loop .inv .2) in
     zeros-end _ _ (l .loop .inv .0) (omega (arith, n))
 
@@ -86,11 +77,9 @@ leading-zeros-spec =
     Inv-loop
     μ-loop
     returns
-    shared-slice-read-if2
-    returns-2
-    zeros-requires
     sub-min
     min-requires
+    returns-2
     loop-holds
     add-loop
     shared-slice-read-if3

@@ -4,28 +4,27 @@ use Prim.Native.Nat.{_-_, _≤_}
 use native.Mathlib.Omega.{arith}
 use lib.ListN.{length}
 use borrow.Author.Needs.{needs}
-use Rattle.words.specs.Fields.{Gathered}
-use Rattle.words.proofs.Texts.{gathered-none, gathered-next, gathered-small}
+use Rattle.words.proofs.Texts.{Gathered, gathered-none, gathered-next, gathered-small, gathered-all}
 use Rattle.words.proofs.gather.Statement.{statement}
 use Rattle.words.proofs.gather.Tie as tie
 
 abbrev Inv-loop : tie.InvT-loop
-Inv-loop text n word₀ i₀ word i = Gathered text n i word × (i ≤ n) × (n ≤ 8) × (n ≤ length text)
+Inv-loop text word₀ i₀ word i = Gathered text i word × (i ≤ 8) × (8 ≤ length text)
 
 abbrev μ-loop : tie.MeasureT-loop
-μ-loop text n word₀ i₀ word i = i
+μ-loop text word₀ i₀ word i = i
 
 loop-holds : tie.Need-loop-holds Inv-loop μ-loop
-loop-holds c = (gathered-none _ _ (c .pre .1), omega arith, c .pre .0, c .pre .1)
+loop-holds c = (gathered-none _ (c .pre), omega arith, c .pre)
 
 sub-i : tie.Need-sub-i Inv-loop μ-loop
 sub-i c = search needs
 
 mul-word : tie.Need-mul-word Inv-loop μ-loop
-mul-word c = let l = c .before .loop in omega (arith, gathered-small _ _ _ _ (l .inv .0) (omega arith) (l .inv .2))
+mul-word c = let l = c .before .loop in omega (arith, gathered-small _ _ _ (l .inv .0) (omega arith))
 
 shared-slice-read-word : tie.Need-shared-slice-read-word Inv-loop μ-loop
-shared-slice-read-word c = let l = c .before .before .loop in omega (arith, l .inv .1, l .inv .3)
+shared-slice-read-word c = let l = c .before .before .loop in omega (arith, l .inv .1, l .inv .2)
 
 cast-word : tie.Need-cast-word Inv-loop μ-loop
 cast-word c = omega (arith, c .shared-slice-known .given (c .before .before .loop .i - 1))
@@ -33,7 +32,7 @@ cast-word c = omega (arith, c .shared-slice-known .given (c .before .before .loo
 add-word : tie.Need-add-word Inv-loop μ-loop
 add-word c =
     let l = c .before .before .loop in
-    omega (arith, c .shared-slice-known .given (l .i - 1), gathered-small _ _ _ _ (l .inv .0) (omega arith) (l .inv .2))
+    omega (arith, c .shared-slice-known .given (l .i - 1), gathered-small _ _ _ (l .inv .0) (omega arith))
 
 loop-less : tie.Need-loop-less Inv-loop μ-loop
 loop-less c = search needs
@@ -41,10 +40,10 @@ loop-less c = search needs
 loop-again : tie.Need-loop-again Inv-loop μ-loop
 loop-again c =
     let l = c .before .before .loop in
-    (gathered-next _ _ _ _ (l .inv .0) (omega arith) (l .inv .1) (l .inv .3) (omega (arith, c .shared-slice-known .given (l .i - 1))), omega (arith, l .inv .1), l .inv .2, l .inv .3)
+    (gathered-next _ _ _ (l .inv .0) (omega arith) (l .inv .1) (l .inv .2) (omega (arith, c .shared-slice-known .given (l .i - 1))), omega (arith, l .inv .1), l .inv .2)
 
 returns : tie.Need-returns Inv-loop μ-loop
-returns c = let e : c .before .loop .i ≡ 0 = omega arith in rw (← e) (c .before .loop .inv .0)
+returns c = let e : c .before .loop .i ≡ 0 = omega arith in gathered-all _ _ (rw e at (c .before .loop .inv .0))
 
 pub gather-spec : {M : Type 1} → statement M
 gather-spec =
