@@ -5,11 +5,11 @@ use mathlib.Core.List.{List, _++_, append-assoc}
 use Prim.Native.Nat.{ℕ, _+_, _-_, _≤_, _<_}
 use native.Mathlib.Omega.{arith}
 use lib.ListN.{length, take, drop, length-drop}
-use lib.Seq.{take-take, take-add, take-append-add, drop-drop}
+use lib.Seq.{take-take, drop-drop}
 use borrow.Author.Tests.{lt-leb}
 use Rattle.answer.specs.Coded.{TRIP-FORM, TRIP-ORDER}
-use Rattle.memory.specs.Bytes.{part}
-use Rattle.memory.proofs.Bytes.{length-front}
+use Rattle.memory.specs.Bytes.{part, overwrite}
+use Rattle.memory.proofs.Bytes.{length-part, length-overwrite, take-overwrite}
 use Rattle.trip_list.specs.declared.Line as line
 use Rattle.trip_list.specs.Trip.{greatestNumber, tripOf}
 use Rattle.trip_list.specs.Lines.{hasLine, firstTrip, lineLength, driverStart}
@@ -61,29 +61,12 @@ driver-within s e =
     let d : driverStart s ≡ length (minuteOf s) + 1 + (length (metresOf s) + 1) = ap driverStart (t .whole) ∙ line-driver (minuteOf s) (metresOf s) (driverOf s) _ (t .three) in
     omega (arith, d, parts-length s e, first-driver s)
 
--- ---- ys has the first bytes of xs, and then those of a list from `first` up to `next`
-
-module _ (list xs ys : List ℕ) (first second next end : ℕ) (room : end ≤ length xs) (above : first ≤ second) (below : second ≤ next)
-    (e : take (end + (next - first)) ys ≡ take end xs ++ part list first (next - first)) where
-  -- so it has those up to `second`
-  first-piece : take (end + (second - first)) ys ≡ take end xs ++ part list first (second - first)
-  first-piece =
-      let i : end + (second - first) ≤ end + (next - first) = omega arith in
-      let j : second - first ≤ next - first = omega arith in
-      sym (take-take _ _ ys i)
-      ∙ ap (take (end + (second - first))) e
-      ∙ rw (length-front end xs room) at (take-append-add (take end xs) (part list first (next - first)) (second - first))
-      ∙ ap (λ (o : List ℕ). take end xs ++ o) (take-take _ _ (drop first list) j)
-
-  -- and then the others
-  pub second-piece : take (end + (second - first) + (next - second)) ys ≡ take (end + (second - first)) ys ++ part list second (next - second)
-  second-piece =
-      let n : end + (second - first) + (next - second) ≡ end + (next - first) = omega arith in
-      let k : next - first ≡ second - first + (next - second) = omega arith in
-      let b : first + (second - first) ≡ second = omega arith in
-      let both : part list first (next - first) ≡ part list first (second - first) ++ part list second (next - second) =
-      rw (k, take-add (second - first) (next - second) (drop first list), drop-drop (second - first) first list, b) in
-      rw (n, e, both, first-piece) (sym (append-assoc (take end xs) _ _))
+-- m elements of a list were laid over xs from `end` on: so the first n of them stand there
+put-more : (list xs : List ℕ) (first end n m : ℕ) → n ≤ m → first + m ≤ length list → end + m ≤ length xs
+    → take (end + n) (overwrite xs end (part list first m)) ≡ take end xs ++ part list first n
+put-more list xs first end n m h k l =
+    let z = length-part list first m k in
+    take-overwrite xs end (part list first m) n (omega arith) (omega arith) ∙ ap (λ (o : List ℕ). take end xs ++ o) (take-take n m (drop first list) h)
 
 -- ---- where its parts lie
 
@@ -140,19 +123,20 @@ module _ (list : List ℕ) (at : ℕ) (l : line.Line) (a : LineAt list at l) whe
       ∙ ap (λ (x : List ℕ). part s (l .first) (l .second - l .first) ++ x) (sym (piece (l .third) _ (l .length - l .third) k))
       ∙ rw (← t, ← g, ← f, a .read .size) (kept-parts s (a .form))
 
-  -- as the code lays them: the whole line from the first on, and the second over it
-  pub put-pieces : (xs ys zs : List ℕ) (end : ℕ) → end ≤ length xs
-      → take (end + (at + l .length - (at + l .first))) ys ≡ take end xs ++ part list (at + l .first) (at + l .length - (at + l .first))
-      → take (end + (at + l .second - (at + l .first)) + (at + l .length - (at + l .third))) zs
-      ≡ take (end + (at + l .second - (at + l .first))) ys ++ part list (at + l .third) (at + l .length - (at + l .third))
+  -- as the code lays them: each piece, perhaps with bytes after it
+  pub put-pieces : (xs : List ℕ) (end : ℕ) → end ≤ at → length list ≤ length xs → (ys zs : List ℕ) (n m : ℕ)
+      → l .second ≤ l .first + n → at + l .first + n ≤ length list → l .length ≤ l .third + m → at + l .third + m ≤ length list
+      → ys ≡ overwrite xs end (part list (at + l .first) n)
+      → zs ≡ overwrite ys (end + (at + l .second - (at + l .first))) (part list (at + l .third) m)
       → take (end + (at + l .second - (at + l .first)) + (at + l .length - (at + l .third))) zs ≡ take end xs ++ spelledLine list at
-  put-pieces xs ys zs end h ey ez =
-      let p = part list (at + l .first) (at + l .second - (at + l .first)) in
-      let q = part list (at + l .third) (at + l .length - (at + l .third)) in
-      let o1 = first-second in
-      let o2 = second-third in
-      let o3 = third-end in
-      ez
-      ∙ ap (λ (o : List ℕ). o ++ q) (first-piece list xs ys (at + l .first) (at + l .second) (at + l .length) end h (omega arith) (omega arith) ey)
-      ∙ append-assoc (take end xs) p q
+  put-pieces xs end before room ys zs n m f1 f2 t1 t2 ey ez =
+      let i = at + l .second - (at + l .first) in
+      let j = at + l .length - (at + l .third) in
+      let q = part list (at + l .third) j in
+      let w : length ys ≡ length xs = ap length ey ∙ length-overwrite xs end _ in
+      ap (take (end + i + j)) ez
+      ∙ put-more list ys (at + l .third) (end + i) j m (omega arith) t2 (omega (arith, first-second, second-third))
+      ∙ ap (λ (o : List ℕ). take (end + i) o ++ q) ey
+      ∙ ap (λ (o : List ℕ). o ++ q) (put-more list xs (at + l .first) end i n (omega arith) f2 (omega arith))
+      ∙ append-assoc (take end xs) (part list (at + l .first) i) q
       ∙ ap (λ (o : List ℕ). take end xs ++ o) kept-at

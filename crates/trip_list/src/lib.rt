@@ -381,20 +381,24 @@ fn copy_window(dst: &mut [u8], src: &[u8])
     copy_window_bytes(dst, &block);
 }
 
-// The bytes of the list from `first` up to `next` are laid over the output from `end` on. What stands after them there may change
-// too: as many bytes as the longest line has are copied where the list has them.
-fn put(output: &mut [u8], end: usize, list: &[u8], first: usize, next: usize)
-    requires { ⌜ (first ≤ next) × (next ≤ first + greatestLine) × (next ≤ length (now list)) × (end ≤ first) × (length (now list) ≤ length (now output)) ⌝ }
-    ensures { λ r. ⌜ take (end + (next - first)) (now (output .exit)) ≡ take end (now (output .entry)) ++ part (now (list .entry)) first (next - first) ⌝ }
+// The bytes of the list from `first` on, as many as the longest line has, are laid over the output from `end` on.
+fn put_window(output: &mut [u8], end: usize, list: &[u8], first: usize)
+    requires { ⌜ (first + greatestLine ≤ length (now list)) × (end + greatestLine ≤ length (now output)) ⌝ }
+    ensures { λ r. ⌜ now (output .exit) ≡ overwrite (now (output .entry)) end (part (now (list .entry)) first greatestLine) ⌝ }
 {
-    if list.len() - first >= MAX_LINE {
-        copy_window(&mut output[end..], &list[first..]);
-    } else {
-        memory::copy(&mut output[end..], &list[first..next]);
-    }
+    copy_window(&mut output[end..], &list[first..]);
 }
 
-// The one spelling of the line that starts at index `at` is laid over the output from `end` on. The index after it comes back.
+// The same of those up to `next`.
+fn put_piece(output: &mut [u8], end: usize, list: &[u8], first: usize, next: usize)
+    requires { ⌜ (first ≤ next) × (next ≤ length (now list)) × (end + (next - first) ≤ length (now output)) ⌝ }
+    ensures { λ r. ⌜ now (output .exit) ≡ overwrite (now (output .entry)) end (part (now (list .entry)) first (next - first)) ⌝ }
+{
+    memory::copy(&mut output[end..], &list[first..next]);
+}
+
+// The one spelling of the line that starts at index `at` is laid over the output from `end` on. What stands after it there may change
+// too. The index after it comes back.
 fn put_line(list: &[u8], at: usize, line: Line, output: &mut [u8], end: usize) -> usize
     requires { ⌜ LineAt (now list) at line × (end ≤ at) × (length (now list) ≤ length (now output)) ⌝ }
     ensures { λ r. ⌜ (r ≡ end + length (spelledLine (now (list .entry)) at))
@@ -405,10 +409,13 @@ fn put_line(list: &[u8], at: usize, line: Line, output: &mut [u8], end: usize) -
     let third = at + line.third;
     let next = at + line.length;
     let middle = end + (second - first);
-    put(output, end, list, first, next);
-    // Where no zeros stand before the metres, the first piece has all.
-    if second < third {
-        put(output, middle, list, third, next);
+    // Windows where the list has them: the second is laid over what the first has too many.
+    if list.len() - third >= MAX_LINE {
+        put_window(output, end, list, first);
+        put_window(output, middle, list, third);
+    } else {
+        put_piece(output, end, list, first, second);
+        put_piece(output, middle, list, third, next);
     }
     middle + (next - third)
 }

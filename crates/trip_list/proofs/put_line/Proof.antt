@@ -1,11 +1,11 @@
 -- `trip_list::put_line` meets its contract: a piece of the line is laid down, and the other after it.
 use mathlib.Core.Logic.{⊎-elim}
-use mathlib.Core.Path.{_≡_, ap}
-use Prim.Native.Nat.{_+_, _≤_}
+use mathlib.Core.Path.{ap}
+use Prim.Native.Nat.{_+_, _-_, _≤_}
 use native.Mathlib.Omega.{arith}
 use lib.ListN.{length}
 use Rattle.trip_list.specs.Scanner.{greatestLine}
-use Rattle.trip_list.proofs.Stepping.{first-second, second-third, third-end, line-inside, length-fits, spelled-length, second-piece, put-pieces}
+use Rattle.trip_list.proofs.Stepping.{first-second, second-third, third-end, line-inside, length-fits, spelled-length, put-pieces}
 use Rattle.trip_list.proofs.put_line.Statement.{statement}
 use Rattle.trip_list.proofs.put_line.Tie as tie
 
@@ -33,35 +33,42 @@ sub-middle c = omega (arith, order (c .before .before .before .before .before .b
 add-middle : tie.Need-add-middle
 add-middle c = omega (arith, order (c .before .before .before .before .before .before))
 
-put-requires : tie.Need-put-requires
-put-requires c κs = omega (arith, order (c .before .before .before .before .before .before .before))
+sub-if1 : tie.Need-sub-if1
+sub-if1 c = omega (arith, order (c .before .before .before .before .before .before))
 
-put-requires-2 : tie.Need-put-requires-2
-put-requires-2 c κs = omega (arith, order (c .before .before .before .before .before .before .before .before .before .before .before .before), c .before .before .before .before .put .kept .0)
+put-window-requires : tie.Need-put-window-requires
+put-window-requires c κs = omega (arith, order (c .before .before .before .before .before .before .before .before))
+
+put-window-requires-2 : tie.Need-put-window-requires-2
+put-window-requires-2 c κs = omega (arith, order (c .before .before .before .before .before .before .before .before .before .before .before .before), c .before .before .before .put-window .kept .0)
+
+put-piece-requires : tie.Need-put-piece-requires
+put-piece-requires c κs = omega (arith, order (c .before .before .before .before .before .before .before .before))
+
+put-piece-requires-2 : tie.Need-put-piece-requires-2
+put-piece-requires-2 c κs = omega (arith, order (c .before .before .before .before .before .before .before .before .before .before .before .before), c .before .before .before .put-piece .kept .0)
 
 sub-result : tie.Need-sub-result
-sub-result c = omega (arith, order (c .before .before .before .before .before .before .before .before .before .before .before))
+sub-result c = omega (arith, order (c .before .before .before .before .before .before .before))
 
 add-result : tie.Need-add-result
-add-result c = omega (arith, order (c .before .before .before .before .before .before .before .before .before .before .before))
+add-result c = omega (arith, order (c .before .before .before .before .before .before .before))
 
 same-length : tie.Need-same-length
 same-length c =
-    let p = c .before .before .before .put .kept .0 in
-    ⊎-elim (λ w. omega (arith, ap length (w .5), w .2 .kept .0, p)) (λ w. omega (arith, ap length (w .1), p)) (c .if1 .came)
+    ⊎-elim (λ w. omega (arith, ap length (w .9), w .2 .kept .0, w .6 .kept .0)) (λ w. omega (arith, ap length (w .9), w .2 .kept .0, w .6 .kept .0)) (c .if1 .came)
 
 returns : tie.Need-returns
 returns c =
-    let k = c .before .before .before .before .before .before .before .before .before .before .before in
+    let k = c .before .before .before .before .before .before .before in
     let a = k .args in
-    let p = c .before .before .before .put in
-    let o = order k in (
+    let o = order k in
+    let pieces = put-pieces (a .list .now) (a .at) (a .line) (k .pre .0) (a .output .now) (a .end) (k .pre .1) (k .pre .2) in (
       omega (arith, o, spelled-length _ _ _ (k .pre .0)),
-      put-pieces (a .list .now) (a .at) (a .line) (k .pre .0) (a .output .now) (p .last .0) (c .if1 .output) (a .end) (omega (arith, o)) (p .ensures)
-          (⊎-elim (λ w. rw (w .5) (w .2 .ensures))
-          (λ w. let q : a .at + a .line .third ≡ a .at + a .line .second = omega (arith, o, w .0) in
-          rw (w .1, q) (second-piece (a .list .now) (a .output .now) _ (a .at + a .line .first) (a .at + a .line .second) (a .at + a .line .length) (a .end) (omega (arith, o)) (omega (arith, o)) (omega (arith, o)) (p .ensures)))
-          (c .if1 .came)),
+      ⊎-elim (λ w. pieces _ (c .if1 .output) greatestLine greatestLine (omega (arith, o)) (omega (arith, o, w .0)) (omega (arith, o)) (omega (arith, o, w .0)) (w .2 .ensures) (rw (w .9) (w .6 .ensures)))
+          (λ w. pieces _ (c .if1 .output) (a .at + a .line .second - (a .at + a .line .first)) (a .at + a .line .length - (a .at + a .line .third)) (omega (arith, o)) (omega (arith, o)) (omega (arith, o)) (omega (arith, o))
+          (w .2 .ensures) (rw (w .9) (w .6 .ensures)))
+          (c .if1 .came),
     )
 
 pub put-line-spec : {M : Type 1} → statement M
@@ -74,8 +81,11 @@ put-line-spec =
     add-next
     sub-middle
     add-middle
-    put-requires
-    put-requires-2
+    sub-if1
+    put-window-requires
+    put-window-requires-2
+    put-piece-requires
+    put-piece-requires-2
     sub-result
     add-result
     same-length
