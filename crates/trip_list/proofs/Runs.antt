@@ -1,20 +1,19 @@
 -- Laws of the runs of bytes in front of a text: a number with its comma, a driver with its LF.
 use mathlib.Core.Path.{_≡_, refl, sym, ap, _∙_}
-use mathlib.Core.Bool.{Bool, true, false, _&&_, not, false≢true}
-use mathlib.Core.List.{List, [], _∷_, _++_}
-use Prim.Native.Nat.{ℕ, zero, suc, _+_, _-_, _*_, _%_, _^_, _≤_, _<_, min}
+use mathlib.Core.Bool.{Bool, true, false, _&&_, false≢true}
+use mathlib.Core.List.{List}
+use Prim.Native.Nat.{ℕ, _+_, _-_, _*_, _%_, _^_, _≤_, _<_, min}
 use native.Mathlib.Omega.{arith}
 use native.Mathlib.Nat.{pow-succ', pow-le-pow-right, lt-of-lt-of-le}
 use native.Mathlib.Numerals.{add-one}
 use lib.Dec.{eqb, leb, ltb}
-use lib.ListN.{length, getD, take, drop, List·getD-eq-default, drop-of-length-le, take-append-drop}
+use lib.ListN.{length, getD, take, List·getD-eq-default}
 use lib.Seq.{take-suc, take-take, getD-take}
 use borrow.Author.Tests.{eqb-false, le-leb, lt-leb, leb-true, ltb-true, ltb-false}
 use borrow.Table.Steps.{cases}
 use Rattle.memory.proofs.Bytes.{length-front}
 use Rattle.scan.specs.Scan.{every}
 use Rattle.scan.proofs.Scan.{every-take}
-use Rattle.scan.proofs.Loops.{searched-next, searched-here}
 use Rattle.text.specs.Decimal.{isDigit, isZero, value, isNumeral, leadingZeros}
 use Rattle.text.specs.Marks.{LF, comma}
 use Rattle.text.proofs.Decimal.{digit-bounds, is-digit, not-digit-below, not-digit-above, value-join, value-small, ZerosTo, zeros-before, zeros-stop, zeros-end}

@@ -1,13 +1,12 @@
 -- What the parts of the code find in front of some bytes.
 use mathlib.Core.Path.{_≡_}
-use mathlib.Core.Bool.{Bool, true, not, _&&_}
+use mathlib.Core.Bool.{Bool, true, _&&_}
 use mathlib.Core.List.{List}
 use Prim.Native.Nat.{ℕ, _+_, _≤_, _<_}
 use lib.Dec.{eqb}
 use lib.ListN.{length, getD, take, drop}
 use Rattle.answer.specs.Coded.{Coded, done, codedRefusal}
 use Rattle.answer.specs.Admission.{firstRefusal, ifDone}
-use Rattle.scan.specs.Scan.{firstIndex}
 use Rattle.text.specs.Decimal.{isDigit, value, leadingZeros}
 use Rattle.text.specs.Marks.{LF, comma}
 use Rattle.text.specs.Runs.{run, front}

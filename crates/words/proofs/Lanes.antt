@@ -1,15 +1,14 @@
 -- Eight tests at once: an operation on a word that works on each byte apart, up to the first byte that fails.
 use mathlib.Core.Path.{_≡_, refl, sym, ap, ap₂, _∙_}
-use mathlib.Core.Bool.{Bool, true, false, not, cond, _&&_, _||_}
-use mathlib.Core.List.{List, [], _∷_}
-use Prim.Native.Nat.{ℕ, zero, suc, _+_, _*_, _/_, _%_, _^_, _≤_, _<_, suc-le-suc, zero-le}
+use mathlib.Core.Bool.{Bool, true, false, cond, _&&_}
+use Prim.Native.Nat.{ℕ, zero, suc, _+_, _*_, _/_, _%_, _^_, _<_, suc-le-suc, zero-le}
 use native.Mathlib.Omega.{arith}
 use native.Mathlib.Nat.{mod-lt, mod-one, pow-suc, one-le-pow, add-suc, add-zero, zero-add, suc-add, add-comm, div-one, mul-suc, le-trans, le-of-eq}
 use native.Mathlib.Numerals.{add-one}
 use lib.Dec.{eqb, ltb}
 use borrow.Author.Tests.{eqb-true, ltb-true}
 use lib.Arith.{digits-div, digits-mod, mod-mul}
-use lib.Pow.{pow-pos, split, mod-pow-add, shr-shr}
+use lib.Pow.{mod-pow-add, shr-shr}
 use lib.Bits.{bitAnd, bitOr, bitXor, and-mod, and-shr, or-mod, or-shr, xor-mod, xor-shr, xor-lt}
 use lib.Count.{trailingZeros}
 use borrow.Table.Steps.{cases}

@@ -4,7 +4,7 @@ use mathlib.Core.Bool.{Bool, true, false}
 use mathlib.Core.List.{List, [], _∷_, _++_, map}
 use Prim.Native.Nat.{ℕ, zero, suc, _+_, _-_, _*_, _/_, _%_, _^_, _≤_, _<_}
 use native.Mathlib.Omega.{arith}
-use native.Mathlib.Nat.{pow-zero, pow-suc, pow-le-pow-right, one-le-pow, lt-of-lt-of-le, zero-add, suc-add, mul-one, mul-assoc, mul-suc, div-lt-iff-lt-mul}
+use native.Mathlib.Nat.{pow-zero, pow-suc, pow-le-pow-right, one-le-pow, lt-of-lt-of-le, zero-add, suc-add, mul-one, mul-assoc, mul-suc}
 use lib.Pow.{pow-add}
 use lib.Arith.{digits-div, digits-mod, digits-lt, mod-mul}
 use lib.ListN.{length, getD, take, drop, drop-of-length-le}

@@ -1,10 +1,10 @@
 -- The value of eight digits: neighbours are joined three times, in all fields at once.
 use mathlib.Core.Path.{_≡_, refl, sym, ap, ap₂, _∙_}
-use mathlib.Core.Bool.{Bool, true, _&&_}
+use mathlib.Core.Bool.{Bool, true}
 use mathlib.Core.List.{List, [], _∷_, map}
 use Prim.Native.Nat.{ℕ, zero, suc, _+_, _-_, _*_, _/_, _%_, _^_, _≤_, _<_}
 use native.Mathlib.Omega.{arith}
-use native.Mathlib.Nat.{mod-lt, mod-eq-of-lt, add-mul, mul-assoc, mul-comm, pow-suc, pow-zero, zero-mul, lt-of-lt-of-le, le-add-right, mul-le-mul-right, add-le-add, le-trans}
+use native.Mathlib.Nat.{mod-lt, mod-eq-of-lt, add-mul, mul-assoc, mul-comm, pow-suc, pow-zero, zero-mul, lt-of-lt-of-le, le-add-right, mul-le-mul-right, add-le-add}
 use lib.Arith.{digits-div, digits-mod, digits-lt}
 use lib.Pow.{pow-pos, pow-mono, split, shr-shr, mod-mod-pow, ones-lt}
 use lib.Bits.{bitAnd, and-mod, and-shr, and-block, and-mask, and-zero-r}

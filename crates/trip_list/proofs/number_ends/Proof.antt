@@ -1,5 +1,4 @@
 -- `trip_list::number_ends` meets its contract.
-use mathlib.Core.Path.{_≡_}
 use borrow.Author.Tests.{le-leb, lt-leb}
 use Rattle.trip_list.proofs.number_ends.Statement.{statement}
 use Rattle.trip_list.proofs.number_ends.Tie as tie

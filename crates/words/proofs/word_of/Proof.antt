@@ -1,5 +1,5 @@
 -- `words::word_of` meets its contract: a short text is copied over eight zeros first.
-use mathlib.Core.Path.{sym, _∙_}
+use mathlib.Core.Path.{_∙_}
 use native.Mathlib.Omega.{arith}
 use lib.Seq.{take-all}
 use borrow.Author.Needs.{needs}
