@@ -1,6 +1,6 @@
 -- Laws of runs, and of a search for the end of one.
 use mathlib.Core.Path.{_≡_, refl, sym, ap, _∙_}
-use mathlib.Core.Bool.{Bool, true, false, not, false≢true}
+use mathlib.Core.Bool.{Bool, true, false, not}
 use mathlib.Core.List.{List, [], _∷_, _++_}
 use Prim.Native.Nat.{ℕ, zero, suc, _+_, _≤_, _<_}
 use native.Mathlib.Omega.{arith}
@@ -8,12 +8,12 @@ use native.Mathlib.Nat.{suc-add}
 use native.Mathlib.Numerals.{add-one}
 use lib.Dec.{eqb}
 use lib.ListN.{length, getD, take, drop, drop-of-length-le, take-append-drop, length-take}
-use lib.Seq.{drop-cons, getD-take, take-take, take-append-seam}
+use lib.Seq.{drop-cons, take-take, take-append-seam}
 use borrow.Author.Tests.{eqb-true}
 use borrow.Table.Steps.{cases}
 use Rattle.memory.proofs.Bytes.{length-front}
 use Rattle.scan.specs.Scan.{every}
-use Rattle.scan.proofs.Scan.{every-impl, first-le, first-join, first-passes}
+use Rattle.scan.proofs.Scan.{every-impl, first-le, first-join}
 use Rattle.scan.proofs.Loops.{searched-next, searched-here}
 use Rattle.text.specs.Runs.{run, front}
 
@@ -44,17 +44,6 @@ module _ (t : ℕ → Bool) (n : ℕ) (s : List ℕ) where
   unfolding front
   first-every = ap (every t) (sym (take-take (run t (take n s)) n s first-few)) ∙ front-every t (take n s)
 
-  -- it ends at a byte that fails, where it ends before
-  pub first-fails : run t (take n s) < n → run t (take n s) < length s → t (getD s (run t (take n s)) 0) ≡ false
-  unfolding run
-  first-fails h k =
-      let l : run t (take n s) < length (take n s) = simp length-take (omega arith) in
-      ap t (sym (getD-take n s (run t (take n s)) 0 h)) ∙ not-true _ (first-passes (λ c. not (t c)) (take n s) 0 l)
-    where
-      not-true : (b : Bool) → not b ≡ true → b ≡ false
-      not-true true e = absurd (false≢true e)
-      not-true false e = refl
-
 -- bytes that pass, before one that does not
 pub run-join : (t : ℕ → Bool) (xs : List ℕ) (y : ℕ) (ys : List ℕ) → every t xs ≡ true → t y ≡ false → run t (xs ++ (y ∷ ys)) ≡ length xs
 unfolding run
@@ -80,9 +69,6 @@ front-split t s c e h = sym (take-append-drop (run t s) s) ∙ rw (drop-cons s (
 -- i bytes pass
 pub record Passed (t : ℕ → Bool) (s : List ℕ) (i : ℕ) : Type 0 where
   pub so-far : run t s ≡ i + run t (drop i s)
-
-pub passed-none : (t : ℕ → Bool) (s : List ℕ) → Passed t s 0
-passed-none t s = record { so-far = omega arith }
 
 -- those among the first n bytes
 pub passed-first : (t : ℕ → Bool) (n : ℕ) (s : List ℕ) → Passed t s (run t (take n s))

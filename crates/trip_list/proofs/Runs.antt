@@ -8,7 +8,7 @@ use native.Mathlib.Nat.{pow-succ', pow-le-pow-right, lt-of-lt-of-le}
 use native.Mathlib.Numerals.{add-one}
 use lib.Dec.{eqb, leb, ltb}
 use lib.ListN.{length, getD, take, List·getD-eq-default}
-use lib.Seq.{take-suc, take-take, getD-take}
+use lib.Seq.{take-suc, take-take}
 use borrow.Author.Tests.{eqb-false, le-leb, lt-leb, leb-true, ltb-true, ltb-false}
 use borrow.Table.Steps.{cases}
 use Rattle.memory.proofs.Bytes.{length-front}
@@ -16,10 +16,11 @@ use Rattle.scan.specs.Scan.{every}
 use Rattle.scan.proofs.Scan.{every-take}
 use Rattle.text.specs.Decimal.{isDigit, isZero, value, isNumeral, leadingZeros}
 use Rattle.text.specs.Marks.{LF, comma}
-use Rattle.text.proofs.Decimal.{digit-bounds, is-digit, not-digit-below, not-digit-above, value-join, value-small, ZerosTo, zeros-before, zeros-stop, zeros-end}
+use Rattle.text.proofs.Decimal.{digit-bounds, is-digit, not-digit-below, not-digit-above, value-join, value-small, ZerosTo, zeros-before}
+use Rattle.words.specs.Words.{eightOrNone, firstEight}
 use Rattle.trip_list.specs.Trip.{greatestNumber, isDriverByte, isNumber, isDriver}
 use Rattle.text.specs.Runs.{run, front}
-use Rattle.text.proofs.Runs.{length-run, front-every, first-few, first-within, first-every, first-fails, Passed, passed-first, passed-next, passed-here, passed-end, passed-front}
+use Rattle.text.proofs.Runs.{length-run, front-every, first-few, first-within, first-every, Passed, passed-first, passed-next, passed-here, passed-end, passed-front}
 use Rattle.trip_list.specs.Scanner.{numberField, driverField, NumberRead, DriverRead}
 
 -- ---- a number and the comma after it
@@ -37,11 +38,14 @@ pub record Digits (s : List ℕ) (i n : ℕ) : Type 0 where
   pub few : i ≤ 10
 
 -- those among the first eight bytes
-pub digits-first : (s : List ℕ) (i n : ℕ) → i ≡ run isDigit (take 8 s) → n ≡ value (take i s) → Digits s i n
+pub digits-first : (s : List ℕ) (i n : ℕ) → i ≡ run isDigit (firstEight s) → n ≡ value (take i s) → Digits s i n
+unfolding firstEight
 digits-first s i n e v =
-    let d : every isDigit (take i s) ≡ true = ap (λ (k : ℕ). every isDigit (take k s)) e ∙ first-every isDigit 8 s in
-    let l : length (take i s) ≡ i = length-front i s (omega (arith, first-within isDigit 8 s)) in
-    record { passed = rw e (passed-first isDigit 8 s); valued = v; bound = rw v (rw l at (value-small (take i s) d)); few = omega (arith, first-few isDigit 8 s) }
+    let w = eightOrNone s in
+    let m : w ≤ 8 = cases (leb 8 (length s)) (λ q. rw q (omega arith)) (λ q. rw q (omega arith)) in
+    let d : every isDigit (take i s) ≡ true = ap (λ (k : ℕ). every isDigit (take k s)) e ∙ first-every isDigit w s in
+    let l : length (take i s) ≡ i = length-front i s (omega (arith, first-within isDigit w s)) in
+    record { passed = rw e (passed-first isDigit w s); valued = v; bound = rw v (rw l at (value-small (take i s) d)); few = omega (arith, first-few isDigit w s) }
 
 pub number-false : (s : List ℕ) (n k z : ℕ) → false ≡ numberField s → NumberRead s false n k z
 number-false s n k z e = record { told = e; read = λ h. absurd (false≢true h) }
@@ -103,24 +107,12 @@ module _ (s : List ℕ) (i n : ℕ) (d : Digits s i n) where
 
 -- ---- zeros before the last digit, among the first eight bytes
 
-module _ (s : List ℕ) (digits z i : ℕ) (e : z ≡ run isZero (take 8 s)) (f : i ≡ min z (digits - 1)) (h : 2 ≤ digits) (l : digits ≤ length s) where
-  pub zeros-first : ZerosTo (take digits s) i
-  zeros-first =
-      let a : every isZero (take z s) ≡ true = ap (λ (k : ℕ). every isZero (take k s)) e ∙ first-every isZero 8 s in
-      let b : every isZero (take i s) ≡ true = ap (every isZero) (sym (take-take i z s (omega arith))) ∙ every-take isZero i (take z s) a in
-      zeros-before i (take digits s) (ap (every isZero) (take-take i digits s (omega arith)) ∙ b) (omega (arith, length-front digits s l))
-
-  -- no others where the eighth byte is none of them
-  pub zeros-few : z < 8 → i ≡ leadingZeros (take digits s)
-  zeros-few k =
-      let w = length-front digits s l in
-      cases (ltb (i + 1) digits)
-      (λ q.
-      let m = ltb-true (i + 1) digits q in
-      let n : i ≡ run isZero (take 8 s) = omega arith in
-      let g : isZero (getD s i 0) ≡ false = rw n (first-fails isZero 8 s (omega arith) (omega arith)) in
-      zeros-stop (take digits s) i zeros-first (omega (arith, w)) (λ o. eqb-false (getD s i 0) 48 g (sym (getD-take digits s i 0 (omega arith)) ∙ o)))
-      (λ q. let m = ltb-false (i + 1) digits q in zeros-end (take digits s) i zeros-first (omega (arith, w)))
+pub zeros-first : (s : List ℕ) (digits z i : ℕ) → z ≡ run isZero (firstEight s) → i ≡ min z (digits - 1) → 2 ≤ digits → digits ≤ length s → ZerosTo (take digits s) i
+unfolding firstEight
+zeros-first s digits z i e f h l =
+    let a : every isZero (take z s) ≡ true = ap (λ (k : ℕ). every isZero (take k s)) e ∙ first-every isZero (eightOrNone s) s in
+    let b : every isZero (take i s) ≡ true = ap (every isZero) (sym (take-take i z s (omega arith))) ∙ every-take isZero i (take z s) a in
+    zeros-before i (take digits s) (ap (every isZero) (take-take i digits s (omega arith)) ∙ b) (omega (arith, length-front digits s l))
 
 -- ---- a driver and the LF after it
 

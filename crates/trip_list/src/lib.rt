@@ -14,6 +14,7 @@ ghost use Rattle.memory.specs.Bytes.{part, overwrite};
 ghost use Rattle.text.specs.Decimal.{isZero, leadingZeros};
 ghost use Rattle.text.specs.Marks.{comma};
 ghost use Rattle.text.specs.Runs.{run};
+ghost use Rattle.words.specs.Words.{firstEight};
 ghost use Rattle.trip_list.specs.Trip.{greatestNumber, isDriverByte};
 ghost use Rattle.trip_list.specs.List.{greatestList, writeAnswer, written};
 ghost use Rattle.trip_list.specs.Lookup.{looked, readTrip, nextTrip};
@@ -51,18 +52,15 @@ fn number_ends(value: usize, digits: usize, mark: u8) -> bool
     mark == b','
 }
 
-// The leading zeros of so many digits, where so many of the first eight bytes are zeros in front. The last digit is no leading zero.
+// The leading zeros of so many digits, of which `words` has counted the first. The last digit is none of them.
 fn leading_zeros(text: &[u8], digits: usize, zeros: usize) -> usize
-    requires { ⌜ (digits ≤ length (now text)) × (zeros ≡ run isZero (take 8 (now text))) ⌝ }
+    requires { ⌜ (digits ≤ length (now text)) × (zeros ≡ run isZero (firstEight (now text))) ⌝ }
     ensures { λ r. ⌜ r ≡ leadingZeros (take digits (now (text .entry))) ⌝ }
 {
     if digits < 2 {
         return 0;
     }
     let mut i = number::min(zeros, digits - 1);
-    if zeros < 8 {
-        return i;
-    }
     while i + 1 < digits {
         if text[i] == b'0' {
             i += 1;

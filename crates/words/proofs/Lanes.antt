@@ -18,19 +18,19 @@ use Rattle.scan.proofs.Scan.{everyBelow-at, and-left, and-right}
 use Rattle.text.specs.Ascii.{isCapitalOrDigit}
 use Rattle.text.specs.Decimal.{isDigit, isZero}
 use Rattle.text.specs.Runs.{run}
-use Rattle.words.specs.Fields.{fields, bytesOf}
-use Rattle.words.specs.Lanes.{copies, plus, noDigit, noCapital, highest}
+use Rattle.words.specs.Words.{lanes, bytesOf}
+use Rattle.words.specs.Tests.{copies, plus, noDigit, noCapital, highest}
 
 -- F of n bytes gives f of the lowest byte; where that is below 128, the rest is F of the rest
-pub record Lanewise (F : ℕ → ℕ → ℕ) (f : ℕ → ℕ) : Type 0 where
-  pub low : (n y : ℕ) → F (suc n) y % 256 ≡ f (y % 256)
-  pub high : (n y : ℕ) → y % 256 < 128 → F (suc n) y / 256 ≡ F n (y / 256)
+record Lanewise (F : ℕ → ℕ → ℕ) (f : ℕ → ℕ) : Type 0 where
+  low : (n y : ℕ) → F (suc n) y % 256 ≡ f (y % 256)
+  high : (n y : ℕ) → y % 256 < 128 → F (suc n) y / 256 ≡ F n (y / 256)
 
-pub lanes-word : Lanewise (λ n y. y) (λ b. b)
-lanes-word = record { low = λ n y. refl; high = λ n y h. refl }
+lanewise-word : Lanewise (λ n y. y) (λ b. b)
+lanewise-word = record { low = λ n y. refl; high = λ n y h. refl }
 
-pub lanes-copies : (c : ℕ) → c < 256 → Lanewise (λ n y. copies c n) (λ b. c)
-lanes-copies c h = record { low = λ n y. digits-mod (copies c n) h; high = λ n y _. digits-div (copies c n) h }
+lanewise-copies : (c : ℕ) → c < 256 → Lanewise (λ n y. copies c n) (λ b. c)
+lanewise-copies c h = record { low = λ n y. digits-mod (copies c n) h; high = λ n y _. digits-div (copies c n) h }
 
 byte-pos : 0 < 256
 byte-pos = omega arith
@@ -39,27 +39,26 @@ pow-byte : (n : ℕ) → 0 < 256 ^ n
 pow-byte n = one-le-pow n 256 byte-pos
 
 module _ {F G : ℕ → ℕ → ℕ} {f g : ℕ → ℕ} (a : Lanewise F f) (b : Lanewise G g) where
-  pub lanes-and : Lanewise (λ n y. bitAnd (F n y) (G n y)) (λ b. bitAnd (f b) (g b))
-  lanes-and = record {
-    low = λ n y. and-mod (F (suc n) y) (G (suc n) y) 8 ∙ ap₂ bitAnd (a .low n y) (b .low n y);
-    high = λ n y h. and-shr (F (suc n) y) (G (suc n) y) 8 ∙ ap₂ bitAnd (a .high n y h) (b .high n y h);
+  -- an operation on bits
+  lanewise-bits : (op : ℕ → ℕ → ℕ) → ((x y k : ℕ) → op x y % 2 ^ k ≡ op (x % 2 ^ k) (y % 2 ^ k)) → ((x y k : ℕ) → op x y / 2 ^ k ≡ op (x / 2 ^ k) (y / 2 ^ k))
+      → Lanewise (λ n y. op (F n y) (G n y)) (λ b. op (f b) (g b))
+  lanewise-bits op lows highs = record {
+    low = λ n y. lows (F (suc n) y) (G (suc n) y) 8 ∙ ap₂ op (a .low n y) (b .low n y);
+    high = λ n y h. highs (F (suc n) y) (G (suc n) y) 8 ∙ ap₂ op (a .high n y h) (b .high n y h);
   }
 
-  pub lanes-or : Lanewise (λ n y. bitOr (F n y) (G n y)) (λ b. bitOr (f b) (g b))
-  lanes-or = record {
-    low = λ n y. or-mod (F (suc n) y) (G (suc n) y) 8 ∙ ap₂ bitOr (a .low n y) (b .low n y);
-    high = λ n y h. or-shr (F (suc n) y) (G (suc n) y) 8 ∙ ap₂ bitOr (a .high n y h) (b .high n y h);
-  }
+  lanewise-and : Lanewise (λ n y. bitAnd (F n y) (G n y)) (λ b. bitAnd (f b) (g b))
+  lanewise-and = lanewise-bits bitAnd and-mod and-shr
 
-  pub lanes-xor : Lanewise (λ n y. bitXor (F n y) (G n y)) (λ b. bitXor (f b) (g b))
-  lanes-xor = record {
-    low = λ n y. xor-mod (F (suc n) y) (G (suc n) y) 8 ∙ ap₂ bitXor (a .low n y) (b .low n y);
-    high = λ n y h. xor-shr (F (suc n) y) (G (suc n) y) 8 ∙ ap₂ bitXor (a .high n y h) (b .high n y h);
-  }
+  lanewise-or : Lanewise (λ n y. bitOr (F n y) (G n y)) (λ b. bitOr (f b) (g b))
+  lanewise-or = lanewise-bits bitOr or-mod or-shr
+
+  lanewise-xor : Lanewise (λ n y. bitXor (F n y) (G n y)) (λ b. bitXor (f b) (g b))
+  lanewise-xor = lanewise-bits bitXor xor-mod xor-shr
 
   -- a sum, where no byte below 128 makes one of 256 or more
-  pub lanes-add : ((b : ℕ) → b < 128 → f b + g b < 256) → Lanewise (λ n y. (F n y + G n y) % 256 ^ n) (λ b. (f b + g b) % 256)
-  lanes-add room = record {
+  lanewise-add : ((b : ℕ) → b < 128 → f b + g b < 256) → Lanewise (λ n y. (F n y + G n y) % 256 ^ n) (λ b. (f b + g b) % 256)
+  lanewise-add room = record {
     low = λ n y.
         let x : ℕ = F (suc n) y + G (suc n) y in
         let s : x % 256 ≡ (F (suc n) y % 256 + G (suc n) y % 256) % 256 = omega arith in
@@ -103,7 +102,7 @@ trailing-high (suc j) k x h =
 
 -- ---- the first byte that fails the test
 
-module _ (F : ℕ → ℕ → ℕ) (f : ℕ → ℕ) (t : ℕ → Bool) (lanes : Lanewise F f)
+module _ (F : ℕ → ℕ → ℕ) (f : ℕ → ℕ) (t : ℕ → Bool) (wise : Lanewise F f)
     (sorted : everyBelow 256 (λ b. cond (t b) (eqb (f b) 0 && ltb b 128) (ltb 0 (f b))) ≡ true) where
   told : (b : ℕ) → b < 256 → cond (t b) (eqb (f b) 0 && ltb b 128) (ltb 0 (f b)) ≡ true
   told = everyBelow-at 256 (λ b. cond (t b) (eqb (f b) 0 && ltb b 128) (ltb 0 (f b))) sorted
@@ -116,47 +115,47 @@ module _ (F : ℕ → ℕ → ℕ) (f : ℕ → ℕ) (t : ℕ → Bool) (lanes :
   failing : (b : ℕ) → b < 256 → t b ≡ false → 0 < f b
   failing b h e = ltb-true 0 (f b) (rw e at (told b h))
 
-  pub first-failing : (n y : ℕ) → trailingZeros (8 * n) (F n y) / 8 ≡ run t (fields 8 n y)
+  pub first-failing : (n y : ℕ) → trailingZeros (8 * n) (F n y) / 8 ≡ run t (lanes 8 n y)
   unfolding run trailingZeros
   first-failing zero y = refl
   first-failing (suc n) y =
       let b : ℕ = y % 256 in
       let k = mod-lt y byte-pos in
-      let l = lanes .low n y in
+      let l = wise .low n y in
       cases (t b)
       (λ e.
       let p = passing b k e in
-      rw (e, mul-suc 8 n, trailing-high 8 (8 * n) (F (suc n) y) (l ∙ p .0), lanes .high n y (p .1), ← first-failing n (y / 256)) (omega arith))
+      rw (e, mul-suc 8 n, trailing-high 8 (8 * n) (F (suc n) y) (l ∙ p .0), wise .high n y (p .1), ← first-failing n (y / 256)) (omega arith))
       (λ e.
       let p = trailing-low 8 (8 * n) (F (suc n) y) (le-trans (failing b k e) (le-of-eq (sym l))) in
       rw (e, mul-suc 8 n) (omega (arith, p)))
 
 -- ---- digits, capital letters, zeros
 
-lanes-plus : {F : ℕ → ℕ → ℕ} {f : ℕ → ℕ} (c : ℕ) → c < 256 → Lanewise F f → ((b : ℕ) → b < 128 → f b + c < 256) → Lanewise (λ n y. plus c n (F n y)) (λ b. (f b + c) % 256)
-lanes-plus c h a room = lanes-add a (lanes-copies c h) room
+lanewise-plus : {F : ℕ → ℕ → ℕ} {f : ℕ → ℕ} (c : ℕ) → c < 256 → Lanewise F f → ((b : ℕ) → b < 128 → f b + c < 256) → Lanewise (λ n y. plus c n (F n y)) (λ b. (f b + c) % 256)
+lanewise-plus c h a room = lanewise-add a (lanewise-copies c h) room
 
-lanes-digit : Lanewise noDigit (λ b. bitOr b ((bitXor b 48 + 118) % 256))
+lanewise-digit : Lanewise noDigit (λ b. bitOr b ((bitXor b 48 + 118) % 256))
 unfolding noDigit
-lanes-digit = lanes-or lanes-word (lanes-plus 118 (omega arith) (lanes-xor lanes-word (lanes-copies 48 (omega arith))) (λ b h. omega (arith, xor-lt 7 b 48 h (omega arith))))
+lanewise-digit = lanewise-or lanewise-word (lanewise-plus 118 (omega arith) (lanewise-xor lanewise-word (lanewise-copies 48 (omega arith))) (λ b h. omega (arith, xor-lt 7 b 48 h (omega arith))))
 
-lanes-capital : Lanewise noCapital (λ b. bitOr (bitOr b ((bitXor b 64 + 101) % 256)) (bitXor ((bitXor b 64 + 127) % 256) 128))
+lanewise-capital : Lanewise noCapital (λ b. bitOr (bitOr b ((bitXor b 64 + 101) % 256)) (bitXor ((bitXor b 64 + 127) % 256) 128))
 unfolding noCapital
-lanes-capital =
-    let letter = lanes-xor lanes-word (lanes-copies 64 (omega arith)) in
-    lanes-or (lanes-or lanes-word (lanes-plus 101 (omega arith) letter (λ b h. omega (arith, xor-lt 7 b 64 h (omega arith))))) (lanes-xor (lanes-plus 127 (omega arith) letter (λ b h. omega (arith, xor-lt 7 b 64 h (omega arith)))) (lanes-copies 128 (omega arith)))
+lanewise-capital =
+    let letter = lanewise-xor lanewise-word (lanewise-copies 64 (omega arith)) in
+    lanewise-or (lanewise-or lanewise-word (lanewise-plus 101 (omega arith) letter (λ b h. omega (arith, xor-lt 7 b 64 h (omega arith))))) (lanewise-xor (lanewise-plus 127 (omega arith) letter (λ b h. omega (arith, xor-lt 7 b 64 h (omega arith)))) (lanewise-copies 128 (omega arith)))
 
-lanes-highest : {F : ℕ → ℕ → ℕ} {f : ℕ → ℕ} → Lanewise F f → Lanewise (λ n y. highest n (F n y)) (λ b. bitAnd (f b) 128)
-lanes-highest a = lanes-and a (lanes-copies 128 (omega arith))
+lanewise-highest : {F : ℕ → ℕ → ℕ} {f : ℕ → ℕ} → Lanewise F f → Lanewise (λ n y. highest n (F n y)) (λ b. bitAnd (f b) 128)
+lanewise-highest a = lanewise-and a (lanewise-copies 128 (omega arith))
 
 pub digits-counted : (y : ℕ) → trailingZeros 64 (highest 8 (noDigit 8 y)) / 8 ≡ run isDigit (bytesOf y)
 unfolding bytesOf
-digits-counted = first-failing _ _ isDigit (lanes-highest lanes-digit) refl 8
+digits-counted = first-failing _ _ isDigit (lanewise-highest lanewise-digit) refl 8
 
 pub letters-counted : (y : ℕ) → trailingZeros 64 (highest 8 (bitAnd (noDigit 8 y) (noCapital 8 y))) / 8 ≡ run isCapitalOrDigit (bytesOf y)
 unfolding bytesOf
-letters-counted = first-failing _ _ isCapitalOrDigit (lanes-highest (lanes-and lanes-digit lanes-capital)) refl 8
+letters-counted = first-failing _ _ isCapitalOrDigit (lanewise-highest (lanewise-and lanewise-digit lanewise-capital)) refl 8
 
 pub zeros-counted : (y : ℕ) → trailingZeros 64 (bitXor y (copies 48 8)) / 8 ≡ run isZero (bytesOf y)
 unfolding bytesOf
-zeros-counted = first-failing _ _ isZero (lanes-xor lanes-word (lanes-copies 48 (omega arith))) refl 8
+zeros-counted = first-failing _ _ isZero (lanewise-xor lanewise-word (lanewise-copies 48 (omega arith))) refl 8

@@ -1,4 +1,4 @@
--- The value of eight digits: neighbours are joined three times, in all fields at once.
+-- The value of eight digits: neighbours are joined three times, in all lanes at once.
 use mathlib.Core.Path.{_≡_, refl, sym, ap, ap₂, _∙_}
 use mathlib.Core.Bool.{Bool, true}
 use mathlib.Core.List.{List, [], _∷_, map}
@@ -12,15 +12,15 @@ use lib.Dec.{leb}
 use borrow.Author.Tests.{leb-true, le-leb}
 use Rattle.scan.specs.Scan.{every}
 use Rattle.scan.proofs.Scan.{and-left, and-right, and-both}
-use Rattle.words.specs.Fields.{fields, bytesOf, inBase}
-use Rattle.words.specs.Lanes.{copies}
+use Rattle.words.specs.Words.{lanes, bytesOf, inBase}
+use Rattle.words.specs.Tests.{copies}
 
--- the low half of each of m pairs of fields
+-- the low half of each of m pairs of lanes
 abbrev pub evens : ℕ → ℕ → ℕ
 evens k zero = 0
 evens k (suc m) = evens k m * 2 ^ (k + k) + (2 ^ k - 1)
 
--- twice m, so that fields unfold by pairs
+-- twice m, so that lanes unfold by pairs
 abbrev pub twice : ℕ → ℕ
 twice zero = zero
 twice (suc m) = suc (suc (twice m))
@@ -31,7 +31,7 @@ joined c [] = []
 joined c (a ∷ []) = []
 joined c (a ∷ b ∷ ds) = (a * c + b) ∷ joined c ds
 
--- in all fields at once
+-- in all lanes at once
 abbrev pub joinedIn : ℕ → ℕ → ℕ → ℕ → ℕ
 joinedIn k m c y = bitAnd y (evens k m) * c + bitAnd (y / 2 ^ k) (evens k m)
 
@@ -70,43 +70,43 @@ module _ (k c t : ℕ) (room : t * c + t < 2 ^ (k + k)) where
   pair-most : (y : ℕ) → y % 2 ^ k ≤ t → y / 2 ^ k % 2 ^ k ≤ t → pair k c y ≤ t * c + t
   pair-most y f g = add-le-add (mul-le-mul-right c f) g
 
-  pub joined-fields : (m y : ℕ) → atMost t (fields k (twice m) y) ≡ true
-      → (fields (k + k) m (joinedIn k m c y) ≡ joined c (fields k (twice m) y)) × (joinedIn k m c y < (2 ^ (k + k)) ^ m) × (atMost (t * c + t) (joined c (fields k (twice m) y)) ≡ true)
-  joined-fields zero y h = (refl, rw (and-zero-r y, and-zero-r (y / 2 ^ k)) (omega (arith, pow-zero (2 ^ (k + k)), zero-mul c)), refl)
-  joined-fields (suc m) y h =
+  pub joined-lanes : (m y : ℕ) → atMost t (lanes k (twice m) y) ≡ true
+      → (lanes (k + k) m (joinedIn k m c y) ≡ joined c (lanes k (twice m) y)) × (joinedIn k m c y < (2 ^ (k + k)) ^ m) × (atMost (t * c + t) (joined c (lanes k (twice m) y)) ≡ true)
+  joined-lanes zero y h = (refl, rw (and-zero-r y, and-zero-r (y / 2 ^ k)) (omega (arith, pow-zero (2 ^ (k + k)), zero-mul c)), refl)
+  joined-lanes (suc m) y h =
       let z : ℕ = joinedIn k m c (y / 2 ^ k / 2 ^ k) in
       let f = leb-true (y % 2 ^ k) t (and-left _ _ h) in
       let g = leb-true (y / 2 ^ k % 2 ^ k) t (and-left _ _ (and-right (leb (y % 2 ^ k) t) _ h)) in
       let l = pair-most y f g in
-      let i = joined-fields m (y / 2 ^ k / 2 ^ k) (and-right (leb (y / 2 ^ k % 2 ^ k) t) _ (and-right (leb (y % 2 ^ k) t) _ h)) in
+      let i = joined-lanes m (y / 2 ^ k / 2 ^ k) (and-right (leb (y / 2 ^ k % 2 ^ k) t) _ (and-right (leb (y % 2 ^ k) t) _ h)) in
       let e : joinedIn k (suc m) c y ≡ z * 2 ^ (k + k) + pair k c y =
       joined-suc k c m y ∙ ap (λ (x : ℕ). joinedIn k m c x * 2 ^ (k + k) + pair k c y) (sym (shr-shr y k k)) in
       let r : pair k c y < 2 ^ (k + k) = omega arith in (
-        ap₂ _∷_ (ap (λ (x : ℕ). x % 2 ^ (k + k)) e ∙ digits-mod z r) (ap (λ (x : ℕ). fields (k + k) m (x / 2 ^ (k + k))) e ∙ ap (fields (k + k) m) (digits-div z r) ∙ i .0),
+        ap₂ _∷_ (ap (λ (x : ℕ). x % 2 ^ (k + k)) e ∙ digits-mod z r) (ap (λ (x : ℕ). lanes (k + k) m (x / 2 ^ (k + k))) e ∙ ap (lanes (k + k) m) (digits-div z r) ∙ i .0),
         rw (e, pow-suc (2 ^ (k + k)) m) (digits-lt (i .1) r),
         and-both _ _ (le-leb _ _ l) (i .2),
       )
 
 -- the digits of a number in base c are those in base c², joined
-pub joined-value : (k c m y n : ℕ) → inBase (c * c) n (joined c (fields k (twice m) y)) ≡ inBase c n (fields k (twice m) y)
+pub joined-value : (k c m y n : ℕ) → inBase (c * c) n (joined c (lanes k (twice m) y)) ≡ inBase c n (lanes k (twice m) y)
 joined-value k c zero y n = refl
 joined-value k c (suc m) y n =
     let a : ℕ = y % 2 ^ k in
     let b : ℕ = y / 2 ^ k % 2 ^ k in
     let e : n * (c * c) + (a * c + b) ≡ (n * c + a) * c + b = omega (arith, add-mul (n * c) a c, mul-assoc n c c) in
-    ap (λ (x : ℕ). inBase (c * c) x (joined c (fields k (twice m) (y / 2 ^ k / 2 ^ k)))) e ∙ joined-value k c m (y / 2 ^ k / 2 ^ k) ((n * c + a) * c + b)
+    ap (λ (x : ℕ). inBase (c * c) x (joined c (lanes k (twice m) (y / 2 ^ k / 2 ^ k)))) e ∙ joined-value k c m (y / 2 ^ k / 2 ^ k) ((n * c + a) * c + b)
 
 -- the low halves of n bytes
-pub nibbles : (n y : ℕ) → fields 8 n (bitAnd y (copies 15 n)) ≡ map (λ b. b % 16) (fields 8 n y)
+pub nibbles : (n y : ℕ) → lanes 8 n (bitAnd y (copies 15 n)) ≡ map (λ b. b % 16) (lanes 8 n y)
 nibbles zero y = refl
 nibbles (suc n) y =
     let e : bitAnd y (copies 15 (suc n)) % 256 ≡ y % 256 % 16 =
     and-mod y (copies 15 (suc n)) 8 ∙ ap (bitAnd (y % 256)) (digits-mod (copies 15 n) (omega arith)) ∙ and-mask (y % 256) 4 in
     let f : bitAnd y (copies 15 (suc n)) / 256 ≡ bitAnd (y / 256) (copies 15 n) =
     and-shr y (copies 15 (suc n)) 8 ∙ ap (bitAnd (y / 256)) (digits-div (copies 15 n) (omega arith)) in
-    ap₂ _∷_ e (ap (fields 8 n) f ∙ nibbles n (y / 256))
+    ap₂ _∷_ e (ap (lanes 8 n) f ∙ nibbles n (y / 256))
 
-nibbles-most : (n y : ℕ) → atMost 15 (map (λ b. b % 16) (fields 8 n y)) ≡ true
+nibbles-most : (n y : ℕ) → atMost 15 (map (λ b. b % 16) (lanes 8 n y)) ≡ true
 nibbles-most zero y = refl
 nibbles-most (suc n) y = and-both _ _ (le-leb (y % 256 % 16) 15 (omega arith)) (nibbles-most n (y / 256))
 
@@ -125,14 +125,14 @@ module _ (y : ℕ) where
   abbrev pub eightOf : ℕ
   eightOf = joinedIn 32 1 10000 foursOf
 
-  pairs-joined : (fields 16 4 pairsOf ≡ joined 10 (fields 8 8 digitsOf)) × (pairsOf < 2 ^ 64) × (atMost 165 (joined 10 (fields 8 8 digitsOf)) ≡ true)
-  pairs-joined = joined-fields 8 10 15 (omega arith) 4 digitsOf (ap (atMost 15) (nibbles 8 y) ∙ nibbles-most 8 y)
+  pairs-joined : (lanes 16 4 pairsOf ≡ joined 10 (lanes 8 8 digitsOf)) × (pairsOf < 2 ^ 64) × (atMost 165 (joined 10 (lanes 8 8 digitsOf)) ≡ true)
+  pairs-joined = joined-lanes 8 10 15 (omega arith) 4 digitsOf (ap (atMost 15) (nibbles 8 y) ∙ nibbles-most 8 y)
 
-  fours-joined : (fields 32 2 foursOf ≡ joined 100 (fields 16 4 pairsOf)) × (foursOf < 2 ^ 64) × (atMost 16665 (joined 100 (fields 16 4 pairsOf)) ≡ true)
-  fours-joined = joined-fields 16 100 165 (omega arith) 2 pairsOf (ap (atMost 165) (pairs-joined .0) ∙ pairs-joined .2)
+  fours-joined : (lanes 32 2 foursOf ≡ joined 100 (lanes 16 4 pairsOf)) × (foursOf < 2 ^ 64) × (atMost 16665 (joined 100 (lanes 16 4 pairsOf)) ≡ true)
+  fours-joined = joined-lanes 16 100 165 (omega arith) 2 pairsOf (ap (atMost 165) (pairs-joined .0) ∙ pairs-joined .2)
 
-  eight-joined : (fields 64 1 eightOf ≡ joined 10000 (fields 32 2 foursOf)) × (eightOf < 2 ^ 64) × (atMost 166666665 (joined 10000 (fields 32 2 foursOf)) ≡ true)
-  eight-joined = joined-fields 32 10000 16665 (omega arith) 1 foursOf (ap (atMost 16665) (fours-joined .0) ∙ fours-joined .2)
+  eight-joined : (lanes 64 1 eightOf ≡ joined 10000 (lanes 32 2 foursOf)) × (eightOf < 2 ^ 64) × (atMost 166666665 (joined 10000 (lanes 32 2 foursOf)) ≡ true)
+  eight-joined = joined-lanes 32 10000 16665 (omega arith) 1 foursOf (ap (atMost 16665) (fours-joined .0) ∙ fours-joined .2)
 
   pub pairs-fit : pairsOf < 2 ^ 64
   pairs-fit = pairs-joined .1

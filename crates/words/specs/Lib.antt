@@ -1,2 +1,2 @@
-pub mod Fields
-pub mod Lanes
+pub mod Words
+pub mod Tests

@@ -1,4 +1,4 @@
-// The runs of digits, of zeros and of letters in front of a text, eight bytes at a time.
+// The runs of digits, of zeros and of letters in front of a text, eight bytes at once.
 ghost use mathlib.Core.Path.{_≡_};
 ghost use mathlib.Core.List.{map};
 ghost use Prim.Native.Nat.{_≤_, _/_, _%_};
@@ -7,8 +7,8 @@ ghost use lib.ListN.{length, take};
 ghost use Rattle.text.specs.Ascii.{isCapitalOrDigit};
 ghost use Rattle.text.specs.Decimal.{isDigit, isZero, value};
 ghost use Rattle.text.specs.Runs.{run};
-ghost use Rattle.words.specs.Fields.{bytesOf, eight, inBase};
-ghost use Rattle.words.specs.Lanes.{noDigit, noCapital};
+ghost use Rattle.words.specs.Words.{bytesOf, firstEight, inBase};
+ghost use Rattle.words.specs.Tests.{noDigit, noCapital};
 
 // A word: eight bytes, the first lowest.
 const BYTES: usize = 8;
@@ -18,12 +18,14 @@ const ZEROS: u64 = 0x3030303030303030;
 
 const HIGHEST: u64 = 0x8080808080808080;
 
+// The highest bit of each byte that is no digit is set, up to the first of them at least.
 fn no_digit(word: u64) -> u64
     ensures { λ r. ⌜ r ≡ noDigit 8 word ⌝ }
 {
     word | std::num::wrapping_add_u64(word ^ ZEROS, 0x7676767676767676)
 }
 
+// And of each that is no capital letter.
 fn no_capital(word: u64) -> u64
     ensures { λ r. ⌜ r ≡ noCapital 8 word ⌝ }
 {
@@ -58,7 +60,7 @@ fn letters_in(word: u64) -> usize
     bytes_below(no_digit(word) & no_capital(word) & HIGHEST)
 }
 
-// The number of eight digits, a byte without any of their bits counted as 0: neighbours are joined three times.
+// The value of eight digits, where a byte 0 counts as the digit 0: neighbours are joined three times.
 fn value_in(word: u64) -> u64
     ensures { λ r. ⌜ r ≡ inBase 10 0 (map (λ b. b % 16) (bytesOf word)) ⌝ }
 {
@@ -84,19 +86,8 @@ fn gather(text: &[u8]) -> u64
     word
 }
 
-// The same with zeros past its end.
-fn word_of(text: &[u8]) -> u64
-    ensures { λ r. ⌜ bytesOf r ≡ eight (now (text .entry)) ⌝ }
-{
-    if text.len() < BYTES {
-        let mut bytes = [0u8; BYTES];
-        memory::copy(&mut bytes, text);
-        return gather(&bytes);
-    }
-    gather(text)
-}
-
-// The digits in front of a text, eight at most: how many of them are leading zeros, how many they are, and their value.
+// The digits in front of the first eight bytes of a text: how many of them are leading zeros, how many they are, and their value. None
+// of a text that has fewer bytes.
 pub struct Digits {
     pub zeros: usize,
     pub count: usize,
@@ -104,10 +95,17 @@ pub struct Digits {
 }
 
 pub fn number(text: &[u8]) -> Digits
-    ensures { λ r. ⌜ (r .zeros ≡ run isZero (take 8 (now (text .entry)))) × (r .count ≡ run isDigit (take 8 (now (text .entry))))
+    ensures { λ r. ⌜ (r .zeros ≡ run isZero (firstEight (now (text .entry)))) × (r .count ≡ run isDigit (firstEight (now (text .entry))))
         × (r .value ≡ value (take (r .count) (now (text .entry)))) ⌝ }
 {
-    let word = word_of(text);
+    if text.len() < BYTES {
+        return Digits {
+            zeros: 0,
+            count: 0,
+            value: 0,
+        };
+    }
+    let word = gather(text);
     let zeros = zeros_in(word);
     let count = digits_in(word);
     if count < 1 {
@@ -124,9 +122,12 @@ pub fn number(text: &[u8]) -> Digits
     }
 }
 
-// The capital letters and digits in front of a text, eight at most.
+// The capital letters and digits in front of the first eight bytes of a text. None of a text that has fewer bytes.
 pub fn letters(text: &[u8]) -> usize
-    ensures { λ r. ⌜ r ≡ run isCapitalOrDigit (take 8 (now (text .entry))) ⌝ }
+    ensures { λ r. ⌜ r ≡ run isCapitalOrDigit (firstEight (now (text .entry))) ⌝ }
 {
-    letters_in(word_of(text))
+    if text.len() < BYTES {
+        return 0;
+    }
+    letters_in(gather(text))
 }

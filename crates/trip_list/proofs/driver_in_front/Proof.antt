@@ -4,6 +4,7 @@ use Prim.Native.Nat.{_-_}
 use native.Mathlib.Omega.{arith}
 use lib.ListN.{length}
 use borrow.Author.Needs.{needs}
+use Rattle.words.specs.Words.{eightOrNone, firstEight}
 use Rattle.trip_list.specs.Trip.{isDriverByte}
 use Rattle.text.proofs.Runs.{Passed, passed-first, passed-next}
 use Rattle.trip_list.proofs.Runs.{driver-false, letters-end, letters-none, letters-many, letters-read}
@@ -17,8 +18,8 @@ abbrev μ-loop : tie.MeasureT-loop
 μ-loop text i₀ i = length text - i
 
 loop-holds : tie.Need-loop-holds Inv-loop μ-loop
-unfolding isDriverByte
-loop-holds c = rw (c .letters .ensures) (passed-first isDriverByte 8 _)
+unfolding isDriverByte firstEight
+loop-holds c = let s = c .before .before .args .text .now in rw (c .letters .ensures) (passed-first isDriverByte (eightOrNone s) s)
 
 letters-requires : tie.Need-letters-requires Inv-loop μ-loop
 letters-requires c κs = search needs

@@ -7,7 +7,7 @@ use lib.Seq.{getD-take}
 use borrow.Author.Needs.{needs}
 use Rattle.memory.proofs.Bytes.{length-front}
 use Rattle.text.proofs.Decimal.{ZerosTo, zeros-none, zeros-next, zeros-stop, zeros-end}
-use Rattle.trip_list.proofs.Runs.{zeros-first, zeros-few}
+use Rattle.trip_list.proofs.Runs.{zeros-first}
 use Rattle.trip_list.proofs.leading_zeros.Statement.{statement}
 use Rattle.trip_list.proofs.leading_zeros.Tie as tie
 
@@ -29,19 +29,16 @@ sub-min c = search needs
 min-requires : tie.Need-min-requires Inv-loop μ-loop
 min-requires c κs = search needs
 
-returns-2 : tie.Need-returns-2 Inv-loop μ-loop
-returns-2 c = let a = c .before .before .before .before in zeros-few _ _ _ _ (a .pre .1) (c .before .min .ensures) (omega arith) (a .pre .0) (omega arith)
-
 loop-holds : tie.Need-loop-holds Inv-loop μ-loop
 loop-holds c =
-    let a = c .before .before .before .before in
-    (zeros-first _ _ _ _ (a .pre .1) (c .before .min .ensures) (omega arith) (a .pre .0), omega (arith, c .before .min .ensures), a .pre .0)
+    let a = c .before .before .before in
+    (zeros-first _ _ _ _ (a .pre .1) (c .min .ensures) (omega arith) (a .pre .0), omega (arith, c .min .ensures), a .pre .0)
 
 add-loop : tie.Need-add-loop Inv-loop μ-loop
 add-loop c = search needs
 
-shared-slice-read-if3 : tie.Need-shared-slice-read-if3 Inv-loop μ-loop
-shared-slice-read-if3 c = search needs
+shared-slice-read-if2 : tie.Need-shared-slice-read-if2 Inv-loop μ-loop
+shared-slice-read-if2 c = search needs
 
 add-i : tie.Need-add-i Inv-loop μ-loop
 add-i c = search needs
@@ -52,21 +49,21 @@ loop-less c = search needs
 loop-again : tie.Need-loop-again Inv-loop μ-loop
 loop-again c =
     let l = c .before .before .before in
-    let a = l .before .before .before .before .before .args in
+    let a = l .before .before .before .before .args in
     let n = length-front (a .digits) (a .text .now) (l .loop .inv .2) in
-    (zeros-next _ _ (l .loop .inv .0) (omega (arith, n)) (getD-take (a .digits) (a .text .now) (l .loop .i) 0 (omega arith) ∙ c .if3 .taken), omega arith, l .loop .inv .2)
+    (zeros-next _ _ (l .loop .inv .0) (omega (arith, n)) (getD-take (a .digits) (a .text .now) (l .loop .i) 0 (omega arith) ∙ c .if2 .taken), omega arith, l .loop .inv .2)
+
+returns-2 : tie.Need-returns-2 Inv-loop μ-loop
+returns-2 c =
+    let l = c .before .before .before in
+    let a = l .before .before .before .before .args in
+    let n = length-front (a .digits) (a .text .now) (l .loop .inv .2) in
+    zeros-stop _ _ (l .loop .inv .0) (omega (arith, n)) (λ q. c .if2 .left (sym (getD-take (a .digits) (a .text .now) (l .loop .i) 0 (omega arith)) ∙ q))
 
 returns-3 : tie.Need-returns-3 Inv-loop μ-loop
 returns-3 c =
-    let l = c .before .before .before in
-    let a = l .before .before .before .before .before .args in
-    let n = length-front (a .digits) (a .text .now) (l .loop .inv .2) in
-    zeros-stop _ _ (l .loop .inv .0) (omega (arith, n)) (λ q. c .if3 .left (sym (getD-take (a .digits) (a .text .now) (l .loop .i) 0 (omega arith)) ∙ q))
-
-returns-4 : tie.Need-returns-4 Inv-loop μ-loop
-returns-4 c =
     let l = c .before in
-    let a = l .before .before .before .before .before .args in
+    let a = l .before .before .before .before .args in
     let n = length-front (a .digits) (a .text .now) (l .loop .inv .2) in
     zeros-end _ _ (l .loop .inv .0) (omega (arith, n))
 
@@ -79,12 +76,11 @@ leading-zeros-spec =
     returns
     sub-min
     min-requires
-    returns-2
     loop-holds
     add-loop
-    shared-slice-read-if3
+    shared-slice-read-if2
     add-i
     loop-less
     loop-again
-    returns-3
-    returns-4)
+    returns-2
+    returns-3)

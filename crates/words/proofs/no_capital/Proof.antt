@@ -2,7 +2,7 @@
 use mathlib.Core.Path.{ap₂}
 use Prim.Native.Nat.{ℕ}
 use lib.Bits.{bitOr, bitXor}
-use Rattle.words.specs.Lanes.{noCapital, copies}
+use Rattle.words.specs.Tests.{noCapital, copies}
 use borrow.Author.Needs.{needs}
 use Rattle.words.proofs.no_capital.Statement.{statement}
 use Rattle.words.proofs.no_capital.Tie as tie

@@ -1,7 +1,7 @@
 -- `words::no_digit` meets its contract.
 use mathlib.Core.Path.{ap}
 use lib.Bits.{bitOr}
-use Rattle.words.specs.Lanes.{noDigit}
+use Rattle.words.specs.Tests.{noDigit}
 use borrow.Author.Needs.{needs}
 use Rattle.words.proofs.no_digit.Statement.{statement}
 use Rattle.words.proofs.no_digit.Tie as tie

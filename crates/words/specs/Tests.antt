@@ -11,15 +11,16 @@ copies c (suc n) = copies c n * 256 + c
 abbrev pub plus : ℕ → ℕ → ℕ → ℕ
 plus c n y = (y + copies c n) % 256 ^ n
 
--- it is no digit
+-- where it is no digit
 unfoldable pub noDigit : ℕ → ℕ → ℕ
 noDigit n y = bitOr y (plus 118 n (bitXor y (copies 48 n)))
 
--- it is no capital letter
+-- where it is no capital letter
 unfoldable pub noCapital : ℕ → ℕ → ℕ
 noCapital n y =
     let letter = bitXor y (copies 64 n) in
     bitOr (bitOr y (plus 101 n letter)) (bitXor (plus 127 n letter) (copies 128 n))
 
+-- the highest bits alone
 abbrev pub highest : ℕ → ℕ → ℕ
 highest n y = bitAnd y (copies 128 n)
