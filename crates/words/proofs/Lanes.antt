@@ -115,7 +115,7 @@ module _ (F : ℕ → ℕ → ℕ) (f : ℕ → ℕ) (t : ℕ → Bool) (wise : 
   failing : (b : ℕ) → b < 256 → t b ≡ false → 0 < f b
   failing b h e = ltb-true 0 (f b) (rw e at (told b h))
 
-  pub first-failing : (n y : ℕ) → trailingZeros (8 * n) (F n y) / 8 ≡ run t (lanes 8 n y)
+  first-failing : (n y : ℕ) → trailingZeros (8 * n) (F n y) / 8 ≡ run t (lanes 8 n y)
   unfolding run trailingZeros
   first-failing zero y = refl
   first-failing (suc n) y =
