@@ -2,21 +2,21 @@
 use mathlib.Core.Path.{_≡_, refl, sym, ap, _∙_}
 use mathlib.Core.Bool.{Bool, true, false, _&&_, false≢true}
 use mathlib.Core.List.{List}
-use Prim.Native.Nat.{ℕ, _+_, _-_, _*_, _/_, _%_, _^_, _≤_, _<_, min}
+use Prim.Native.Nat.{ℕ, _+_, _-_, _*_, _%_, _^_, _≤_, _<_, min}
 use native.Mathlib.Omega.{arith}
 use native.Mathlib.Nat.{pow-succ', pow-le-pow-right, lt-of-lt-of-le}
 use native.Mathlib.Numerals.{add-one}
 use lib.Dec.{eqb, leb, ltb}
-use lib.ListN.{length-take, length, getD, take, List·getD-eq-default}
+use lib.ListN.{length, getD, take, List·getD-eq-default}
 use lib.Seq.{take-suc, take-take}
-use borrow.Author.Tests.{eqb-false, le-leb, lt-leb, lt-ltb, leb-true, ltb-true, ltb-false}
+use borrow.Author.Tests.{eqb-false, le-leb, lt-leb, leb-true, ltb-true, ltb-false}
 use borrow.Table.Steps.{cases}
 use Rattle.memory.proofs.Bytes.{length-front}
 use Rattle.scan.specs.Scan.{every}
-use Rattle.scan.proofs.Scan.{and-left, every-take}
+use Rattle.scan.proofs.Scan.{every-take}
 use Rattle.text.specs.Decimal.{isDigit, isZero, value, isNumeral, leadingZeros}
 use Rattle.text.specs.Marks.{LF, comma}
-use Rattle.text.proofs.Decimal.{digit-bounds, is-digit, not-digit-below, not-digit-above, value-join, value-small, ZerosTo, zeros-before, zeros-within}
+use Rattle.text.proofs.Decimal.{digit-bounds, is-digit, not-digit-below, not-digit-above, value-join, value-small, ZerosTo, zeros-before}
 use Rattle.words.specs.Words.{eightOrNone, firstEight}
 use Rattle.trip_list.specs.Trip.{greatestNumber, isDriverByte, isNumber, isDriver}
 use Rattle.text.specs.Runs.{run, front}
@@ -47,30 +47,14 @@ digits-first s i n e v =
     let l : length (take i s) ≡ i = length-front i s (omega (arith, first-within isDigit w s)) in
     record { passed = rw e (passed-first isDigit w s); valued = v; bound = rw v (rw l at (value-small (take i s) d)); few = omega (arith, first-few isDigit w s) }
 
+pub number-false : (s : List ℕ) (n k z : ℕ) → false ≡ numberField s → NumberRead s false n k z
+number-false s n k z e = record { told = e; read = λ h. absurd (false≢true h) }
+
 and-none : (a b : Bool) → b ≡ false → false ≡ a && b
 and-none true b e = sym e
 and-none false b e = refl
 
--- no number
-pub number-none : (s : List ℕ) → false ≡ numberField s → NumberRead s (ltb 0 0) (0 / 256) (0 / 16 % 16) (0 % 16)
-number-none s e = record { told = e; read = λ h. absurd (false≢true h) }
-
--- a number as one word
-number-word : (s : List ℕ) (n i z w : ℕ) → NumberRead s true n i z → w ≡ 256 * n + 16 * i + z → 1 ≤ i → i ≤ 10 → z ≤ i → NumberRead s (ltb 0 w) (w / 256) (w / 16 % 16) (w % 16)
-number-word s n i z w r e h k l =
-    let a : ltb 0 w ≡ true = lt-ltb 0 w (omega arith) in
-    let b : w / 256 ≡ n = omega arith in
-    let c : w / 16 % 16 ≡ i = omega arith in
-    let f : w % 16 ≡ z = omega arith in
-    rw (a, b, c, f) r
-
-pub zeros-most : (s : List ℕ) (i z : ℕ) → z ≡ leadingZeros (take i s) → z ≤ i
-zeros-most s i z e = let l : length (take i s) ≤ i = simp length-take (omega arith) in omega (arith, zeros-within (take i s) i l)
-
 module _ (s : List ℕ) (i n : ℕ) (d : Digits s i n) where
-  pub digits-fit : n < 10000000000
-  digits-fit = lt-of-lt-of-le (d .bound) (pow-le-pow-right {n = 10} (omega arith) {i = i} {j = 10} (d .few))
-
   -- at most nine digits before
   pub digits-small : i < 10 → n < 1000000000
   digits-small h = lt-of-lt-of-le (d .bound) (pow-le-pow-right {n = 10} (omega arith) {i = i} {j = 9} (omega arith))
@@ -118,11 +102,8 @@ module _ (s : List ℕ) (i n : ℕ) (d : Digits s i n) where
           rw (l, front-every isDigit s, le-leb _ _ (d .few), ← digits-value, ← digits-run)
           (sym (regroup (leb 1 i) (leb n greatestNumber) (eqb (getD s i 0) comma)))
 
-      pub digits-read : (z w : ℕ) → true ≡ leb 1 i && (leb n greatestNumber && eqb (getD s i 0) comma) → z ≡ leadingZeros (take i s) → w ≡ 256 * n + 16 * i + z
-          → NumberRead s (ltb 0 w) (w / 256) (w / 16 % 16) (w % 16)
-      digits-read z w a b e =
-          let r : NumberRead s true n i z = record { told = a ∙ digits-ended; read = λ _. (digits-value, digits-run, b ∙ ap leadingZeros digits-front) } in
-          number-word s n i z w r e (leb-true 1 i (and-left (leb 1 i) _ (sym a))) (d .few) (zeros-most s i z b)
+      pub digits-read : (told : Bool) (z : ℕ) → told ≡ leb 1 i && (leb n greatestNumber && eqb (getD s i 0) comma) → z ≡ leadingZeros (take i s) → NumberRead s told n i z
+      digits-read told z a b = record { told = a ∙ digits-ended; read = λ _. (digits-value, digits-run, b ∙ ap leadingZeros digits-front) }
 
 -- ---- zeros before the last digit, among the first eight bytes
 

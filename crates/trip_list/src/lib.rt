@@ -6,8 +6,8 @@ use answer::Refusal;
 ghost use mathlib.Core.Path.{_≡_};
 ghost use mathlib.Core.Bool.{_&&_, cond};
 ghost use mathlib.Core.List.{_++_};
-ghost use Prim.Native.Nat.{_+_, _-_, _/_, _%_, _≤_, _<_};
-ghost use lib.Dec.{eqb, leb, ltb};
+ghost use Prim.Native.Nat.{_+_, _-_, _≤_, _<_};
+ghost use lib.Dec.{eqb, leb};
 ghost use lib.ListN.{length, take};
 ghost use Rattle.answer.specs.Coded.{coded};
 ghost use Rattle.memory.specs.Bytes.{part, overwrite};
@@ -30,6 +30,14 @@ const MAX_LINE: usize = 39;
 const MAX_NUMBER: usize = 4294967295;
 
 // ---- the fields of a line
+
+// Digits in front of a text. Where they are a number with a comma after it: its value, how many they are, and its leading zeros.
+struct Number {
+    fits: bool,
+    value: usize,
+    digits: usize,
+    zeros: usize,
+}
 
 // Whether so many digits of this value are a number, with the comma after it.
 fn number_ends(value: usize, digits: usize, mark: u8) -> bool
@@ -63,10 +71,8 @@ fn leading_zeros(text: &[u8], digits: usize, zeros: usize) -> usize
     i
 }
 
-// The number in front of a text, with a comma after it: its leading zeros, 16 times its digits and 256 times its value, as one word,
-// which comes back in a register. 0 where there is none.
-fn number_in_front(text: &[u8]) -> usize
-    ensures { λ r. ⌜ NumberRead (now (text .entry)) (ltb 0 r) (r / 256) (r / 16 % 16) (r % 16) ⌝ }
+fn number_in_front(text: &[u8]) -> Number
+    ensures { λ r. ⌜ NumberRead (now (text .entry)) (r .fits) (r .value) (r .digits) (r .zeros) ⌝ }
 {
     let front = words::number(text);
     let zeros = front.zeros;
@@ -75,18 +81,30 @@ fn number_in_front(text: &[u8]) -> usize
     while i < text.len() {
         let digit = std::num::wrapping_sub_u8(text[i], b'0');
         if digit > 9 {
-            if number_ends(value, i, text[i]) {
-                return 256 * value + 16 * i + leading_zeros(text, i, zeros);
-            }
-            return 0;
+            return Number {
+                fits: number_ends(value, i, text[i]),
+                value,
+                digits: i,
+                zeros: leading_zeros(text, i, zeros),
+            };
         }
         if i == 10 {
-            return 0;
+            return Number {
+                fits: false,
+                value: 0,
+                digits: 0,
+                zeros: 0,
+            };
         }
         value = 10 * value + number::widen(digit);
         i += 1;
     }
-    0
+    Number {
+        fits: false,
+        value: 0,
+        digits: 0,
+        zeros: 0,
+    }
 }
 
 fn is_driver_byte(c: u8) -> bool
@@ -159,20 +177,20 @@ fn line_in_front(text: &[u8]) -> Line
     ensures { λ r. ⌜ LineRead (now (text .entry)) r ⌝ }
 {
     let minute = number_in_front(text);
-    if minute > 0 {
-        let second = minute / 16 % 16 + 1;
+    if minute.fits {
+        let second = minute.digits + 1;
         let metres = number_in_front(&text[second..]);
-        if metres > 0 {
-            let driver_start = second + metres / 16 % 16 + 1;
+        if metres.fits {
+            let driver_start = second + metres.digits + 1;
             let driver = driver_in_front(&text[driver_start..]);
             if driver.fits {
                 return Line {
                     fits: true,
-                    minute: minute / 256,
-                    metres: metres / 256,
-                    first: minute % 16,
+                    minute: minute.value,
+                    metres: metres.value,
+                    first: minute.zeros,
                     second,
-                    third: second + metres % 16,
+                    third: second + metres.zeros,
                     driver: driver_start,
                     letters: driver.letters,
                     length: driver_start + driver.letters + 1,

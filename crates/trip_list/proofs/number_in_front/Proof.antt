@@ -1,12 +1,12 @@
 -- `trip_list::number_in_front` meets its contract: i digits have this value.
-use mathlib.Core.Path.{_≡_, refl, sym, _∙_}
-use mathlib.Core.Bool.{true, false}
+use mathlib.Core.Path.{_≡_}
+use mathlib.Core.Bool.{true}
 use Prim.Native.Nat.{_-_}
 use native.Mathlib.Omega.{arith}
 use lib.ListN.{length, getD}
 use borrow.Author.Needs.{needs}
 use Rattle.text.specs.Decimal.{isDigit}
-use Rattle.trip_list.proofs.Runs.{Digits, digits-first, digits-next, digits-small, digits-fit, digits-end, digits-ended, digits-many, digits-read, number-none, zeros-most, digit-found, no-digit-found}
+use Rattle.trip_list.proofs.Runs.{Digits, digits-first, digits-next, digits-small, digits-end, digits-many, digits-read, number-false, digit-found, no-digit-found}
 use Rattle.trip_list.proofs.number_in_front.Statement.{statement}
 use Rattle.trip_list.proofs.number_in_front.Tie as tie
 
@@ -39,37 +39,20 @@ shared-slice-read-number-ends c = search needs
 number-ends-requires : tie.Need-number-ends-requires Inv-loop μ-loop
 number-ends-requires c κs = search needs
 
-mul-result : tie.Need-mul-result Inv-loop μ-loop
-mul-result c = omega (arith, digits-fit _ _ _ (c .before .before .before .before .before .before .before .loop .inv))
-
-mul-result-2 : tie.Need-mul-result-2 Inv-loop μ-loop
-mul-result-2 c = omega (arith, c .before .before .before .before .before .before .before .loop .inv .few)
-
-add-result : tie.Need-add-result Inv-loop μ-loop
-add-result c = let l = c .before .before .before .before .before .before .before .loop .inv in omega (arith, digits-fit _ _ _ l, l .few)
-
 leading-zeros-requires : tie.Need-leading-zeros-requires Inv-loop μ-loop
-leading-zeros-requires c κs = (omega arith, c .before .before .before .before .before .before .before .before .number .ensures .0)
-
-add-result-2 : tie.Need-add-result-2 Inv-loop μ-loop
-add-result-2 c = let l = c .before .before .before .before .before .before .before .before .loop .inv in omega (arith, digits-fit _ _ _ l, l .few, zeros-most (c .before .before .before .before .before .before .before .before .before .before .before .args .text .now) (c .before .before .before .before .before .before .before .before .loop .i) (c .leading-zeros .result) (c .leading-zeros .ensures))
-
--- the byte at i is no digit
-no-digit : (c : tie.Then1 Inv-loop μ-loop) → isDigit (getD (c .before .before .before .before .before .before .before .args .text .now) (c .before .before .before .before .loop .i) 0) ≡ false
-no-digit c = let s = c .before .wrapping-sub-u8 in no-digit-found _ (s .result) (omega arith) (s .ensures) (omega arith) (omega arith)
+leading-zeros-requires c κs = (omega arith, c .before .before .before .before .before .before .before .number .ensures .0)
 
 returns : tie.Need-returns Inv-loop μ-loop
 returns c =
-    let k = c .before .before .before .before in
-    digits-read _ _ _ (k .before .before .before .before .loop .inv) (omega arith) (no-digit k) _ _ (sym (c .before .if2 .taken) ∙ c .before .before .number-ends .ensures) (c .leading-zeros .ensures) refl
+    let l = c .before .before .before .before .before .before .before in
+    let s = c .before .before .before .before .wrapping-sub-u8 in
+    let x = getD (l .before .before .before .args .text .now) (l .loop .i) 0 in
+    digits-read _ _ _ (l .loop .inv) (omega arith) (no-digit-found x (s .result) (omega arith) (s .ensures) (omega arith) (omega arith)) _ _ (c .before .number-ends .ensures) (c .leading-zeros .ensures)
 
 returns-2 : tie.Need-returns-2 Inv-loop μ-loop
 returns-2 c =
-    let k = c .before .before .before in
-    number-none _ (sym (c .if2 .left) ∙ c .before .number-ends .ensures ∙ digits-ended _ _ _ (k .before .before .before .before .loop .inv) (omega arith) (no-digit k))
-
-returns-3 : tie.Need-returns-3 Inv-loop μ-loop
-returns-3 c = let k = c .before in number-none _ (digits-many _ _ _ (k .before .before .before .before .loop .inv) (omega arith) (digit k .0) (omega arith))
+    let k = c .before in
+    number-false _ _ _ _ (digits-many _ _ _ (k .before .before .before .before .loop .inv) (omega arith) (digit k .0) (omega arith))
 
 mul-value : tie.Need-mul-value Inv-loop μ-loop
 mul-value c = let l = c .before .before .before .before .before .loop in omega (arith, digits-small _ _ _ (l .inv) (omega (arith, l .inv .few)))
@@ -93,8 +76,8 @@ loop-again c =
     let d = digit k in
     rw (c .widen .ensures, d .1) (digits-next _ _ _ (l .inv) (omega arith) (d .0) (omega (arith, l .inv .few)))
 
-returns-4 : tie.Need-returns-4 Inv-loop μ-loop
-returns-4 c = number-none _ (digits-end _ _ _ (c .before .loop .inv) (omega arith))
+returns-3 : tie.Need-returns-3 Inv-loop μ-loop
+returns-3 c = number-false _ _ _ _ (digits-end _ _ _ (c .before .loop .inv) (omega arith))
 
 pub number-in-front-spec : {M : Type 1} → statement M
 number-in-front-spec =
@@ -108,18 +91,13 @@ number-in-front-spec =
     wrapping-sub-u8-requires
     shared-slice-read-number-ends
     number-ends-requires
-    mul-result
-    mul-result-2
-    add-result
     leading-zeros-requires
-    add-result-2
     returns
     returns-2
-    returns-3
     mul-value
     widen-requires
     add-value
     add-i
     loop-less
     loop-again
-    returns-4)
+    returns-3)
