@@ -1,6 +1,6 @@
 -- A word of the first bytes of a text.
 use mathlib.Core.Path.{_≡_, refl, sym, ap, ap₂, _∙_}
-use mathlib.Core.Bool.{Bool, true, false}
+use mathlib.Core.Bool.{Bool, true}
 use mathlib.Core.List.{List, [], _∷_, _++_, map}
 use Prim.Native.Nat.{ℕ, zero, suc, _+_, _-_, _*_, _/_, _%_, _^_, _≤_, _<_}
 use native.Mathlib.Omega.{arith}
@@ -9,8 +9,8 @@ use lib.Pow.{pow-add}
 use lib.Arith.{digits-div, digits-mod, digits-lt, mod-mul}
 use lib.ListN.{length, getD, take, drop, drop-of-length-le}
 use lib.Seq.{drop-cons, getD-take, take-take}
-use Rattle.memory.proofs.Bytes.{length-front, overwrite-whole, overwrite-fits, take-overwrite}
-use Rattle.memory.specs.Bytes.{zeros, overwrite}
+use Rattle.memory.proofs.Bytes.{length-front}
+use Rattle.memory.specs.Bytes.{zeros}
 use borrow.Author.Tests.{le-leb, lt-leb}
 use Rattle.scan.specs.Scan.{every}
 use Rattle.scan.proofs.Scan.{and-left, and-right}
