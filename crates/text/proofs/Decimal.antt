@@ -288,7 +288,3 @@ module _ (ds : List ℕ) (i : ℕ) (z : ZerosTo ds i) where
       short [] l = refl
       short (x ∷ []) l = refl
       short (x ∷ y ∷ ys) l = absurd (omega arith)
-
-pub zeros-within : (ds : List ℕ) (n : ℕ) → length ds ≤ n → leadingZeros ds ≤ n
-zeros-within [] n h = omega arith
-zeros-within (d ∷ ds) n h = omega (arith, zeros-below (d ∷ ds) (omega arith))

@@ -14,7 +14,7 @@ use borrow.Table.Steps.{cases}
 use Rattle.memory.proofs.Bytes.{length-front}
 use Rattle.scan.specs.Scan.{every}
 use Rattle.scan.proofs.Scan.{every-take}
-use Rattle.text.specs.Decimal.{isDigit, isZero, value, isNumeral, leadingZeros}
+use Rattle.text.specs.Decimal.{isDigit, isZero, value, isNumeral}
 use Rattle.text.specs.Marks.{LF, comma}
 use Rattle.text.proofs.Decimal.{digit-bounds, is-digit, not-digit-below, not-digit-above, value-join, value-small, ZerosTo, zeros-before}
 use Rattle.words.specs.Words.{eightOrNone, firstEight}
@@ -47,8 +47,8 @@ digits-first s i n e v =
     let l : length (take i s) ≡ i = length-front i s (omega (arith, first-within isDigit w s)) in
     record { passed = rw e (passed-first isDigit w s); valued = v; bound = rw v (rw l at (value-small (take i s) d)); few = omega (arith, first-few isDigit w s) }
 
-pub number-false : (s : List ℕ) (n k z : ℕ) → false ≡ numberField s → NumberRead s false n k z
-number-false s n k z e = record { told = e; read = λ h. absurd (false≢true h) }
+pub number-false : (s : List ℕ) (n k : ℕ) → false ≡ numberField s → NumberRead s false n k
+number-false s n k e = record { told = e; read = λ h. absurd (false≢true h) }
 
 and-none : (a b : Bool) → b ≡ false → false ≡ a && b
 and-none true b e = sym e
@@ -102,8 +102,8 @@ module _ (s : List ℕ) (i n : ℕ) (d : Digits s i n) where
           rw (l, front-every isDigit s, le-leb _ _ (d .few), ← digits-value, ← digits-run)
           (sym (regroup (leb 1 i) (leb n greatestNumber) (eqb (getD s i 0) comma)))
 
-      pub digits-read : (told : Bool) (z : ℕ) → told ≡ leb 1 i && (leb n greatestNumber && eqb (getD s i 0) comma) → z ≡ leadingZeros (take i s) → NumberRead s told n i z
-      digits-read told z a b = record { told = a ∙ digits-ended; read = λ _. (digits-value, digits-run, b ∙ ap leadingZeros digits-front) }
+      pub digits-read : (told : Bool) → told ≡ leb 1 i && (leb n greatestNumber && eqb (getD s i 0) comma) → NumberRead s told n i
+      digits-read told a = record { told = a ∙ digits-ended; read = λ _. (digits-value, digits-run) }
 
 -- ---- zeros before the last digit, among the first eight bytes
 

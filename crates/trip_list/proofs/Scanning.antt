@@ -9,11 +9,10 @@ use lib.ListN.{length, getD, drop, length-drop}
 use lib.Seq.{drop-drop, getD-append-seam}
 use borrow.Author.Tests.{eqb-true}
 use Rattle.scan.proofs.Scan.{and-left, and-right, is-false}
-use Rattle.text.specs.Decimal.{isDigit, value, leadingZeros}
+use Rattle.text.specs.Decimal.{isDigit, value}
 use Rattle.text.specs.Marks.{LF, comma, fields}
 use Rattle.trip_list.specs.declared.Line as line
 use Rattle.text.specs.Runs.{run, front}
-use Rattle.text.proofs.Decimal.{zeros-within}
 use Rattle.text.proofs.Runs.{run-join, front-join, mark-within, front-split, length-run}
 use Rattle.trip_list.specs.Trip.{Trip, trip, isDriverByte, isNumber, isDriver, field, lineOf}
 use Rattle.trip_list.specs.Lines.{firstLine, hasLine, firstTrip, lineLength, driverStart}
@@ -71,7 +70,7 @@ line-false s l e h = record { told = e ∙ h; read = λ q. absurd (false≢true 
 no-line : (s : List ℕ) (b isField : Bool) → (Texts s → isField ≡ true) → b ≡ isField → b ≡ false → false ≡ hasLine s
 no-line s b isField has told e = sym (is-false (hasLine s) (λ h. false≢true (sym e ∙ told ∙ has (texts s h))))
 
-module _ (s : List ℕ) (b : Bool) (v i a : ℕ) (r : NumberRead s b v i a) where
+module _ (s : List ℕ) (b : Bool) (v i : ℕ) (r : NumberRead s b v i) where
   pub no-minute : b ≡ false → false ≡ hasLine s
   no-minute = no-line s b (numberField s) (λ t. ap numberField (t .whole) ∙ number-field (minuteOf s) _ (t .three .minute)) (r .told)
 
@@ -95,7 +94,7 @@ module _ (s : List ℕ) (b : Bool) (v i a : ℕ) (r : NumberRead s b v i a) wher
           ∙ ap (drop (length (minuteOf s) + 1)) (t .whole)
           ∙ after-mark (minuteOf s) comma _
 
-      module _ (g : Bool) (k j c : ℕ) (q : NumberRead u g k j c) where
+      module _ (g : Bool) (k j : ℕ) (q : NumberRead u g k j) where
         pub no-metres : g ≡ false → false ≡ hasLine s
         no-metres = no-line s g (numberField u) (λ t. ap numberField (after-minute t) ∙ number-field (metresOf s) _ (t .three .metres)) (q .told)
 
@@ -108,10 +107,6 @@ module _ (s : List ℕ) (b : Bool) (v i a : ℕ) (r : NumberRead s b v i a) wher
 
           length-rest : length u ≡ length s - (i + 1)
           length-rest = ap length w ∙ length-drop (i + 1) s
-
-          -- the leading zeros are some of the digits
-          pub second-zeros : c ≤ j
-          second-zeros = omega (arith, q .read f .2, zeros-within (front isDigit u) j (omega (arith, length-run isDigit u, digits2)))
 
           pub third-within : i + 1 + j + 1 ≤ length s
           third-within = omega (arith, second .within, digits2, length-rest, second-within)
@@ -183,9 +178,7 @@ module _ (s : List ℕ) (b : Bool) (v i a : ℕ) (r : NumberRead s b v i a) wher
                   fits = true;
                   minute = v;
                   metres = k;
-                  first = a;
                   second = i + 1;
-                  third = i + 1 + c;
                   driver = i + 1 + j + 1;
                   letters = n;
                   length = i + 1 + j + 1 + n + 1;
@@ -195,15 +188,12 @@ module _ (s : List ℕ) (b : Bool) (v i a : ℕ) (r : NumberRead s b v i a) wher
                     let lk : length K ≡ j = length-run isDigit u ∙ sym digits2 in
                     let ld : length D ≡ n = length-run isDriverByte x ∙ sym letters in
                     let f0 : field 0 (firstLine s) ≡ M = ap (λ (ts : List (List ℕ)). getD ts 0 []) found-fields in
-                    let f1 : field 1 (firstLine s) ≡ K = ap (λ (ts : List (List ℕ)). getD ts 1 []) found-fields in
                     record {
                       told = sym (ap hasLine whole ∙ line-has M K D R three);
                       read = λ _. record {
                         minute = r .read e .0 ∙ sym (ap (λ (t : Trip). t .minute) found);
                         metres = q .read f .0 ∙ sym (ap (λ (t : Trip). t .metres) found);
-                        first = r .read e .2 ∙ sym (ap leadingZeros f0);
                         second = omega (arith, ap length f0, lm);
-                        third = omega (arith, ap leadingZeros f1, q .read f .2);
                         driver = omega (arith, found-driver, lm, lk);
                         letters = sym (ap (λ (t : Trip). length (t .driver)) found ∙ ld);
                         size = omega (arith, found-length, lm, lk, ld);

@@ -5,16 +5,19 @@ use mathlib.Core.List.{List, _++_, append-assoc}
 use Prim.Native.Nat.{ℕ, _+_, _-_, _≤_, _<_}
 use native.Mathlib.Omega.{arith}
 use lib.ListN.{length, take, drop, length-drop}
-use lib.Seq.{take-take, drop-drop}
+use lib.Seq.{take-take, take-at, drop-drop}
 use borrow.Author.Tests.{lt-leb}
 use Rattle.answer.specs.Coded.{TRIP-FORM, TRIP-ORDER}
 use Rattle.memory.specs.Bytes.{part, overwrite}
 use Rattle.memory.proofs.Bytes.{length-part, length-overwrite, take-overwrite}
+use Rattle.text.specs.Decimal.{leadingZeros}
+use Rattle.text.specs.Marks.{comma}
 use Rattle.trip_list.specs.declared.Line as line
+use Rattle.trip_list.specs.declared.Kept as kept
 use Rattle.trip_list.specs.Trip.{greatestNumber, tripOf}
 use Rattle.trip_list.specs.Lines.{hasLine, firstTrip, lineLength, driverStart}
-use Rattle.trip_list.specs.Scanner.{LineRead, greatestLine, LineAt, Stopped, tripAt, spelledLine}
-use Rattle.trip_list.proofs.Lines.{number-small, minuteOf, metresOf, driverOf, texts, line-driver}
+use Rattle.trip_list.specs.Scanner.{LineRead, greatestLine, LineAt, Stopped, tripAt, spelledLine, KeptAt}
+use Rattle.trip_list.proofs.Lines.{number-small, after-mark, minuteOf, metresOf, driverOf, texts, line-driver}
 use Rattle.trip_list.proofs.Parsing.{line-some, line-within, from-malformed, from-falling}
 use Rattle.trip_list.proofs.Spelling.{minute-zeros, metres-zeros, minuteZeros, metresZeros, parts-length, line-short, spell-shorter, kept-parts}
 
@@ -54,12 +57,12 @@ pub first-small : (s : List ℕ) → hasLine s ≡ true → (firstTrip s .minute
 unfolding firstTrip tripOf
 first-small s e = let t = texts s e .three in (number-small (minuteOf s) (t .minute), number-small (metresOf s) (t .metres))
 
+driver-start : (s : List ℕ) → hasLine s ≡ true → driverStart s ≡ length (minuteOf s) + 1 + (length (metresOf s) + 1)
+driver-start s e = let t = texts s e in ap driverStart (t .whole) ∙ line-driver (minuteOf s) (metresOf s) (driverOf s) _ (t .three)
+
 -- the driver ends before the LF
 pub driver-within : (s : List ℕ) → hasLine s ≡ true → driverStart s + length (firstTrip s .driver) < lineLength s
-driver-within s e =
-    let t = texts s e in
-    let d : driverStart s ≡ length (minuteOf s) + 1 + (length (metresOf s) + 1) = ap driverStart (t .whole) ∙ line-driver (minuteOf s) (metresOf s) (driverOf s) _ (t .three) in
-    omega (arith, d, parts-length s e, first-driver s)
+driver-within s e = omega (arith, driver-start s e, parts-length s e, first-driver s)
 
 -- m elements of a list were laid over xs from `end` on: so the first n of them stand there
 put-more : (list xs : List ℕ) (first end n m : ℕ) → n ≤ m → first + m ≤ length list → end + m ≤ length xs
@@ -93,50 +96,90 @@ module _ (list : List ℕ) (at : ℕ) (l : line.Line) (a : LineAt list at l) whe
   unfolding tripAt
   trip-found = rw (a .read .minute, a .read .metres, a .read .driver, a .read .letters)
 
-  -- the kept digits of the minute, the metres, their kept digits, the end
-  pub first-second : l .first ≤ l .second
-  first-second = omega (arith, a .read .first, a .read .second, minute-zeros s (a .form))
+  -- ---- what its spelling keeps
 
-  pub second-third : l .second ≤ l .third
-  second-third = omega (arith, a .read .third)
+  minute-first : take (l .second - 1) s ≡ minuteOf s
+  minute-first =
+      ap (take (l .second - 1)) (texts s (a .form) .whole)
+      ∙ take-at (minuteOf s) _ (l .second - 1) (omega (arith, a .read .second))
 
-  pub third-end : l .third ≤ l .length
-  third-end = omega (arith, a .read .second, a .read .third, a .read .size, metres-zeros s (a .form), parts-length s (a .form))
+  metres-next : take (l .driver - l .second - 1) (drop (at + l .second) list) ≡ metresOf s
+  metres-next =
+      let t = texts s (a .form) in
+      let n = l .driver - l .second - 1 in
+      ap (take n)
+      (sym (drop-drop (l .second) at list)
+      ∙ ap (λ (i : ℕ). drop i s) (a .read .second)
+      ∙ ap (drop (length (minuteOf s) + 1)) (t .whole)
+      ∙ after-mark (minuteOf s) comma _)
+      ∙ take-at (metresOf s) _ n (omega (arith, a .read .second, a .read .driver, driver-start s (a .form)))
 
-  pub spelled-length : l .second - l .first + (l .length - l .third) ≡ length (spelledLine list at)
-  unfolding spelledLine
-  spelled-length =
-      omega (arith, spell-shorter s (a .form), a .read .first, a .read .second, a .read .third, a .read .size, minute-zeros s (a .form), third-end)
+  -- the numbers and their marks lie within the line
+  pub fields-inside : (1 ≤ l .second) × (l .second < l .driver) × (l .driver ≤ l .length)
+  fields-inside = omega (arith, a .read .second, a .read .driver, a .read .size, driver-start s (a .form), parts-length s (a .form))
 
-  piece : (x n k : ℕ) → n ≡ k → part s x k ≡ part list (at + x) n
-  piece x n k e = ap (take k) (drop-drop x at list) ∙ ap (λ (i : ℕ). part list (at + x) i) (sym e)
+  module _ (u : List ℕ) (w : u ≡ drop at list) (x : ℕ) (e : x ≡ leadingZeros (take (l .second - 1) u)) where
+    minute-counted : x ≡ minuteZeros s (a .form)
+    minute-counted = e ∙ ap leadingZeros (ap (take (l .second - 1)) w ∙ minute-first)
 
-  kept-at : part list (at + l .first) (at + l .second - (at + l .first)) ++ part list (at + l .third) (at + l .length - (at + l .third)) ≡ spelledLine list at
-  unfolding spelledLine
-  kept-at =
-      let f : minuteZeros s (a .form) ≡ l .first = sym (a .read .first) in
-      let g : length (minuteOf s) + 1 ≡ l .second = sym (a .read .second) in
-      let t : length (minuteOf s) + 1 + metresZeros s (a .form) ≡ l .third = omega (arith, a .read .third, a .read .second) in
-      let n : at + l .second - (at + l .first) ≡ l .second - l .first = omega arith in
-      let k : at + l .length - (at + l .third) ≡ l .length - l .third = omega arith in
-      ap (λ (x : List ℕ). x ++ part list (at + l .third) (at + l .length - (at + l .third))) (sym (piece (l .first) _ (l .second - l .first) n))
-      ∙ ap (λ (x : List ℕ). part s (l .first) (l .second - l .first) ++ x) (sym (piece (l .third) _ (l .length - l .third) k))
-      ∙ rw (← t, ← g, ← f, a .read .size) (kept-parts s (a .form))
+    pub minute-counts : x < l .second
+    minute-counts = omega (arith, minute-counted, minute-zeros s (a .form), a .read .second)
 
-  -- as the code lays them: each piece, perhaps with bytes after it
-  pub put-pieces : (xs : List ℕ) (end : ℕ) → end ≤ at → length list ≤ length xs → (ys zs : List ℕ) (n m : ℕ)
-      → l .second ≤ l .first + n → at + l .first + n ≤ length list → l .length ≤ l .third + m → at + l .third + m ≤ length list
-      → ys ≡ overwrite xs end (part list (at + l .first) n)
-      → zs ≡ overwrite ys (end + (at + l .second - (at + l .first))) (part list (at + l .third) m)
-      → take (end + (at + l .second - (at + l .first)) + (at + l .length - (at + l .third))) zs ≡ take end xs ++ spelledLine list at
-  put-pieces xs end before room ys zs n m f1 f2 t1 t2 ey ez =
-      let i = at + l .second - (at + l .first) in
-      let j = at + l .length - (at + l .third) in
-      let q = part list (at + l .third) j in
-      let w : length ys ≡ length xs = ap length ey ∙ length-overwrite xs end _ in
-      ap (take (end + i + j)) ez
-      ∙ put-more list ys (at + l .third) (end + i) j m (omega arith) t2 (omega (arith, first-second, second-third))
-      ∙ ap (λ (o : List ℕ). take (end + i) o ++ q) ey
-      ∙ ap (λ (o : List ℕ). o ++ q) (put-more list xs (at + l .first) end i n (omega arith) f2 (omega arith))
-      ∙ append-assoc (take end xs) (part list (at + l .first) i) q
-      ∙ ap (λ (o : List ℕ). take end xs ++ o) kept-at
+    module _ (v : List ℕ) (o : v ≡ drop (at + l .second) list) (y : ℕ) (f : y ≡ leadingZeros (take (l .driver - l .second - 1) v)) where
+      metres-counted : y ≡ metresZeros s (a .form)
+      metres-counted = f ∙ ap leadingZeros (ap (take (l .driver - l .second - 1)) o ∙ metres-next)
+
+      pub metres-counts : l .second + y < l .driver
+      metres-counts = omega (arith, metres-counted, metres-zeros s (a .form), a .read .second, a .read .driver, driver-start s (a .form))
+
+      pub kept-found : KeptAt list at (record { first = at + x; third = at + l .second + y })
+      kept-found = record { first = ap (λ (i : ℕ). at + i) minute-counted; third = omega (arith, metres-counted, a .read .second) }
+
+  piece : (x y n k : ℕ) → x ≡ at + y → n ≡ k → part list x n ≡ part s y k
+  piece x y n k e q = ap (λ (i : ℕ). part list i n) e ∙ ap (λ (i : ℕ). part list (at + y) i) q ∙ ap (take k) (sym (drop-drop y at list))
+
+  module _ (k : kept.Kept) (z : KeptAt list at k) where
+    -- the kept digits of the minute, the metres, their kept digits, the end
+    pub first-second : k .first ≤ at + l .second
+    first-second = omega (arith, z .first, a .read .second, minute-zeros s (a .form))
+
+    pub second-third : at + l .second ≤ k .third
+    second-third = omega (arith, z .third, a .read .second)
+
+    pub third-end : k .third ≤ at + l .length
+    third-end = omega (arith, z .third, a .read .size, metres-zeros s (a .form), parts-length s (a .form))
+
+    pub spelled-length : at + l .second - k .first + (at + l .length - k .third) ≡ length (spelledLine list at)
+    unfolding spelledLine
+    spelled-length =
+        omega (arith, spell-shorter s (a .form), z .first, z .third, a .read .second, a .read .size, minute-zeros s (a .form), third-end)
+
+    kept-at : part list (k .first) (at + l .second - k .first) ++ part list (k .third) (at + l .length - k .third) ≡ spelledLine list at
+    unfolding spelledLine
+    kept-at =
+        let m = length (minuteOf s) + 1 in
+        let f = minuteZeros s (a .form) in
+        let g = m + metresZeros s (a .form) in
+        let n : at + l .second - k .first ≡ m - f = omega (arith, z .first, a .read .second) in
+        let o : at + l .length - k .third ≡ lineLength s - g = omega (arith, z .third, a .read .size) in
+        ap (λ (x : List ℕ). x ++ part list (k .third) (at + l .length - k .third)) (piece (k .first) f _ (m - f) (z .first) n)
+        ∙ ap (λ (x : List ℕ). part s f (m - f) ++ x) (piece (k .third) g _ (lineLength s - g) (omega (arith, z .third)) o)
+        ∙ kept-parts s (a .form)
+
+    -- as the code lays them: each piece, perhaps with bytes after it
+    pub put-pieces : (xs : List ℕ) (end : ℕ) → end ≤ at → length list ≤ length xs → (ys zs : List ℕ) (n m : ℕ)
+        → at + l .second ≤ k .first + n → k .first + n ≤ length list → at + l .length ≤ k .third + m → k .third + m ≤ length list
+        → ys ≡ overwrite xs end (part list (k .first) n)
+        → zs ≡ overwrite ys (end + (at + l .second - k .first)) (part list (k .third) m)
+        → take (end + (at + l .second - k .first) + (at + l .length - k .third)) zs ≡ take end xs ++ spelledLine list at
+    put-pieces xs end before room ys zs n m f1 f2 t1 t2 ey ez =
+        let i = at + l .second - k .first in
+        let j = at + l .length - k .third in
+        let q = part list (k .third) j in
+        let w : length ys ≡ length xs = ap length ey ∙ length-overwrite xs end _ in
+        ap (take (end + i + j)) ez
+        ∙ put-more list ys (k .third) (end + i) j m (omega arith) t2 (omega (arith, first-second, second-third))
+        ∙ ap (λ (o : List ℕ). take (end + i) o ++ q) ey
+        ∙ ap (λ (o : List ℕ). o ++ q) (put-more list xs (k .first) end i n (omega arith) f2 (omega (arith, z .first)))
+        ∙ append-assoc (take end xs) (part list (k .first) i) q
+        ∙ ap (λ (o : List ℕ). take end xs ++ o) kept-at

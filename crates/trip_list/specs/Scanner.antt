@@ -12,6 +12,7 @@ use Rattle.text.specs.Marks.{LF, comma}
 use Rattle.text.specs.Runs.{run, front}
 use Rattle.trip_list.specs.declared.Trip as code
 use Rattle.trip_list.specs.declared.Line as line
+use Rattle.trip_list.specs.declared.Kept as kept
 use Rattle.trip_list.specs.declared.Step.{Step}
 use Rattle.trip_list.specs.declared.Step.the-variants.{At, Refused}
 use Rattle.trip_list.specs.Trip.{isDriverByte, isNumber, isDriver, field, spellTrip}
@@ -29,22 +30,20 @@ numberField = fieldBefore comma isDigit isNumber
 unfoldable pub driverField : List ℕ → Bool
 driverField = fieldBefore LF isDriverByte isDriver
 
--- the field in front is a number exactly where `fits`; then these are its value, its digits and its leading zeros
-pub record NumberRead (s : List ℕ) (fits : Bool) (n digits zeros : ℕ) : Type 0 where
+-- the field in front is a number exactly where `fits`; then these are its value and its digits
+pub record NumberRead (s : List ℕ) (fits : Bool) (n digits : ℕ) : Type 0 where
   pub told : fits ≡ numberField s
-  pub read : fits ≡ true → (n ≡ value (front isDigit s)) × (digits ≡ run isDigit s) × (zeros ≡ leadingZeros (front isDigit s))
+  pub read : fits ≡ true → (n ≡ value (front isDigit s)) × (digits ≡ run isDigit s)
 
 pub record DriverRead (s : List ℕ) (fits : Bool) (n : ℕ) : Type 0 where
   pub told : fits ≡ driverField s
   pub read : fits ≡ true → n ≡ run isDriverByte s
 
--- the numbers of the line in front, where its kept digits, its metres and its driver begin, and its length
+-- the numbers of the line in front, where its metres and its driver begin, and its length
 pub record LineFields (s : List ℕ) (l : line.Line) : Type 0 where
   pub minute : l .minute ≡ firstTrip s .minute
   pub metres : l .metres ≡ firstTrip s .metres
-  pub first : l .first ≡ leadingZeros (field 0 (firstLine s))
   pub second : l .second ≡ length (field 0 (firstLine s)) + 1
-  pub third : l .third ≡ l .second + leadingZeros (field 1 (firstLine s))
   pub driver : l .driver ≡ driverStart s
   pub letters : l .letters ≡ length (firstTrip s .driver)
   pub size : l .length ≡ lineLength s
@@ -82,6 +81,11 @@ tripAt list at = record {
 
 unfoldable pub spelledLine : List ℕ → ℕ → List ℕ
 spelledLine list at = spellTrip (firstTrip (drop at list))
+
+-- the digits that it keeps, of the minute and of the metres, begin after the leading zeros
+pub record KeptAt (list : List ℕ) (at : ℕ) (k : kept.Kept) : Type 0 where
+  pub first : k .first ≡ at + leadingZeros (field 0 (firstLine (drop at list)))
+  pub third : k .third ≡ at + (length (field 0 (firstLine (drop at list))) + 1) + leadingZeros (field 1 (firstLine (drop at list)))
 
 -- one pass over a list: its answer; where that is done, the trip at the place
 pub record Surveyed (list : List ℕ) (place : ℕ) (answer : Coded) (t : code.Trip) : Type 0 where

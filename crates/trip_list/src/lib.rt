@@ -11,14 +11,12 @@ ghost use lib.Dec.{eqb, leb};
 ghost use lib.ListN.{length, take};
 ghost use Rattle.answer.specs.Coded.{coded};
 ghost use Rattle.memory.specs.Bytes.{part, overwrite};
-ghost use Rattle.text.specs.Decimal.{isZero, leadingZeros};
+ghost use Rattle.text.specs.Decimal.{leadingZeros};
 ghost use Rattle.text.specs.Marks.{comma};
-ghost use Rattle.text.specs.Runs.{run};
-ghost use Rattle.words.specs.Words.{firstEight};
 ghost use Rattle.trip_list.specs.Trip.{greatestNumber, isDriverByte};
 ghost use Rattle.trip_list.specs.List.{greatestList, writeAnswer, written};
 ghost use Rattle.trip_list.specs.Lookup.{looked, readTrip, nextTrip};
-ghost use Rattle.trip_list.specs.Scanner.{NumberRead, DriverRead, LineRead, Stepped, greatestLine, LineAt, tripAt, spelledLine, Surveyed, Spelled};
+ghost use Rattle.trip_list.specs.Scanner.{NumberRead, DriverRead, LineRead, Stepped, greatestLine, LineAt, tripAt, spelledLine, KeptAt, Surveyed, Spelled};
 
 // The longest list.
 const MAX_LIST: usize = 4096;
@@ -31,12 +29,11 @@ const MAX_NUMBER: usize = 4294967295;
 
 // ---- the fields of a line
 
-// Digits in front of a text. Where they are a number with a comma after it: its value, how many they are, and its leading zeros.
+// Digits in front of a text. Where they are a number with a comma after it: its value, and how many they are.
 struct Number {
     fits: bool,
     value: usize,
     digits: usize,
-    zeros: usize,
 }
 
 // Whether so many digits of this value are a number, with the comma after it.
@@ -52,30 +49,10 @@ fn number_ends(value: usize, digits: usize, mark: u8) -> bool
     mark == b','
 }
 
-// The leading zeros of so many digits, of which `words` has counted the first. The last digit is none of them.
-fn leading_zeros(text: &[u8], digits: usize, zeros: usize) -> usize
-    requires { ⌜ (digits ≤ length (now text)) × (zeros ≡ run isZero (firstEight (now text))) ⌝ }
-    ensures { λ r. ⌜ r ≡ leadingZeros (take digits (now (text .entry))) ⌝ }
-{
-    if digits < 2 {
-        return 0;
-    }
-    let mut i = number::min(zeros, digits - 1);
-    while i + 1 < digits {
-        if text[i] == b'0' {
-            i += 1;
-        } else {
-            return i;
-        }
-    }
-    i
-}
-
 fn number_in_front(text: &[u8]) -> Number
-    ensures { λ r. ⌜ NumberRead (now (text .entry)) (r .fits) (r .value) (r .digits) (r .zeros) ⌝ }
+    ensures { λ r. ⌜ NumberRead (now (text .entry)) (r .fits) (r .value) (r .digits) ⌝ }
 {
     let front = words::number(text);
-    let zeros = front.zeros;
     let mut value = front.value;
     let mut i = front.count;
     while i < text.len() {
@@ -85,7 +62,6 @@ fn number_in_front(text: &[u8]) -> Number
                 fits: number_ends(value, i, text[i]),
                 value,
                 digits: i,
-                zeros: leading_zeros(text, i, zeros),
             };
         }
         if i == 10 {
@@ -93,7 +69,6 @@ fn number_in_front(text: &[u8]) -> Number
                 fits: false,
                 value: 0,
                 digits: 0,
-                zeros: 0,
             };
         }
         value = 10 * value + number::widen(digit);
@@ -103,7 +78,6 @@ fn number_in_front(text: &[u8]) -> Number
         fits: false,
         value: 0,
         digits: 0,
-        zeros: 0,
     }
 }
 
@@ -161,11 +135,8 @@ struct Line {
     fits: bool,
     minute: usize,
     metres: usize,
-    // Where the minute begins without its leading zeros.
-    first: usize,
-    // Where the metres begin, and where they begin without their leading zeros.
+    // Where the metres begin.
     second: usize,
-    third: usize,
     // Where the driver begins, and its length.
     driver: usize,
     letters: usize,
@@ -188,9 +159,7 @@ fn line_in_front(text: &[u8]) -> Line
                     fits: true,
                     minute: minute.value,
                     metres: metres.value,
-                    first: minute.zeros,
                     second,
-                    third: second + metres.zeros,
                     driver: driver_start,
                     letters: driver.letters,
                     length: driver_start + driver.letters + 1,
@@ -202,9 +171,7 @@ fn line_in_front(text: &[u8]) -> Line
         fits: false,
         minute: 0,
         metres: 0,
-        first: 0,
         second: 0,
-        third: 0,
         driver: 0,
         letters: 0,
         length: 0,
@@ -357,6 +324,42 @@ pub fn read(list: &[u8], place: usize) -> Lookup
 
 // ---- the writer
 
+// The leading zeros of so many digits. The last digit is none of them.
+fn leading_zeros(text: &[u8], digits: usize) -> usize
+    requires { ⌜ digits ≤ length (now text) ⌝ }
+    ensures { λ r. ⌜ r ≡ leadingZeros (take digits (now (text .entry))) ⌝ }
+{
+    if digits < 2 {
+        return 0;
+    }
+    let mut i = number::min(words::zeros(text), digits - 1);
+    while i + 1 < digits {
+        if text[i] == b'0' {
+            i += 1;
+        } else {
+            return i;
+        }
+    }
+    i
+}
+
+// Where the digits begin that a spelling keeps, of the minute and of the metres.
+struct Kept {
+    first: usize,
+    third: usize,
+}
+
+fn kept_from(list: &[u8], at: usize, line: Line) -> Kept
+    requires { ⌜ LineAt (now list) at line ⌝ }
+    ensures { λ r. ⌜ KeptAt (now (list .entry)) at r ⌝ }
+{
+    let second = at + line.second;
+    Kept {
+        first: at + leading_zeros(&list[at..], line.second - 1),
+        third: second + leading_zeros(&list[second..], line.driver - line.second - 1),
+    }
+}
+
 // The first bytes of dst become those of src, as many as the longest line has.
 fn copy_window_bytes(dst: &mut [u8], src: &[u8])
     requires { ⌜ (greatestLine ≤ length (now dst)) × (greatestLine ≤ length (now src)) ⌝ }
@@ -402,9 +405,10 @@ fn put_line(list: &[u8], at: usize, line: Line, output: &mut [u8], end: usize) -
     ensures { λ r. ⌜ (r ≡ end + length (spelledLine (now (list .entry)) at))
         × (take r (now (output .exit)) ≡ take end (now (output .entry)) ++ spelledLine (now (list .entry)) at) ⌝ }
 {
-    let first = at + line.first;
+    let kept = kept_from(list, at, line);
+    let first = kept.first;
     let second = at + line.second;
-    let third = at + line.third;
+    let third = kept.third;
     let next = at + line.length;
     let middle = end + (second - first);
     // Windows where the list has them: the second is laid over what the first has too many.

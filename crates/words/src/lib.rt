@@ -86,40 +86,37 @@ fn gather(text: &[u8]) -> u64
     word
 }
 
-// The digits in front of the first eight bytes of a text: how many of them are leading zeros, how many they are, and their value. None
-// of a text that has fewer bytes.
+// The digits in front of the first eight bytes of a text: how many they are, and their value. None of a text that has fewer bytes.
 pub struct Digits {
-    pub zeros: usize,
     pub count: usize,
     pub value: usize,
 }
 
 pub fn number(text: &[u8]) -> Digits
-    ensures { λ r. ⌜ (r .zeros ≡ run isZero (firstEight (now (text .entry)))) × (r .count ≡ run isDigit (firstEight (now (text .entry))))
-        × (r .value ≡ value (take (r .count) (now (text .entry)))) ⌝ }
+    ensures { λ r. ⌜ (r .count ≡ run isDigit (firstEight (now (text .entry)))) × (r .value ≡ value (take (r .count) (now (text .entry)))) ⌝ }
 {
     if text.len() < BYTES {
-        return Digits {
-            zeros: 0,
-            count: 0,
-            value: 0,
-        };
+        return Digits { count: 0, value: 0 };
     }
     let word = gather(text);
-    let zeros = zeros_in(word);
     let count = digits_in(word);
     if count < 1 {
-        return Digits {
-            zeros,
-            count,
-            value: 0,
-        };
+        return Digits { count, value: 0 };
     }
     Digits {
-        zeros,
         count,
         value: value_in(word << (64 - 8 * count)) as usize,
     }
+}
+
+// The zeros in front of the first eight bytes of a text. None of a text that has fewer bytes.
+pub fn zeros(text: &[u8]) -> usize
+    ensures { λ r. ⌜ r ≡ run isZero (firstEight (now (text .entry))) ⌝ }
+{
+    if text.len() < BYTES {
+        return 0;
+    }
+    zeros_in(gather(text))
 }
 
 // The capital letters and digits in front of the first eight bytes of a text. None of a text that has fewer bytes.

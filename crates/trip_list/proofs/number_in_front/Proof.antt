@@ -11,10 +11,10 @@ use Rattle.trip_list.proofs.number_in_front.Statement.{statement}
 use Rattle.trip_list.proofs.number_in_front.Tie as tie
 
 abbrev Inv-loop : tie.InvT-loop
-Inv-loop text zeros value₀ i₀ value i = Digits text i value
+Inv-loop text value₀ i₀ value i = Digits text i value
 
 abbrev μ-loop : tie.MeasureT-loop
-μ-loop text zeros value₀ i₀ value i = length text - i
+μ-loop text value₀ i₀ value i = length text - i
 
 -- the byte at i is a digit
 digit : (c : tie.Else1 Inv-loop μ-loop) → (isDigit (getD (c .before .before .before .before .before .before .before .args .text .now) (c .before .before .before .before .loop .i) 0) ≡ true)
@@ -22,7 +22,7 @@ digit : (c : tie.Else1 Inv-loop μ-loop) → (isDigit (getD (c .before .before .
 digit c = digit-found _ _ (c .before .wrapping-sub-u8 .ensures) (omega arith)
 
 loop-holds : tie.Need-loop-holds Inv-loop μ-loop
-loop-holds c = let r = c .number .ensures in digits-first _ _ _ (r .1) (r .2)
+loop-holds c = let r = c .number .ensures in digits-first _ _ _ (r .0) (r .1)
 
 number-requires : tie.Need-number-requires Inv-loop μ-loop
 number-requires c κs = search needs
@@ -39,20 +39,17 @@ shared-slice-read-number-ends c = search needs
 number-ends-requires : tie.Need-number-ends-requires Inv-loop μ-loop
 number-ends-requires c κs = search needs
 
-leading-zeros-requires : tie.Need-leading-zeros-requires Inv-loop μ-loop
-leading-zeros-requires c κs = (omega arith, c .before .before .before .before .before .before .before .number .ensures .0)
-
 returns : tie.Need-returns Inv-loop μ-loop
 returns c =
-    let l = c .before .before .before .before .before .before .before in
-    let s = c .before .before .before .before .wrapping-sub-u8 in
+    let l = c .before .before .before .before .before .before in
+    let s = c .before .before .before .wrapping-sub-u8 in
     let x = getD (l .before .before .before .args .text .now) (l .loop .i) 0 in
-    digits-read _ _ _ (l .loop .inv) (omega arith) (no-digit-found x (s .result) (omega arith) (s .ensures) (omega arith) (omega arith)) _ _ (c .before .number-ends .ensures) (c .leading-zeros .ensures)
+    digits-read _ _ _ (l .loop .inv) (omega arith) (no-digit-found x (s .result) (omega arith) (s .ensures) (omega arith) (omega arith)) _ (c .number-ends .ensures)
 
 returns-2 : tie.Need-returns-2 Inv-loop μ-loop
 returns-2 c =
     let k = c .before in
-    number-false _ _ _ _ (digits-many _ _ _ (k .before .before .before .before .loop .inv) (omega arith) (digit k .0) (omega arith))
+    number-false _ _ _ (digits-many _ _ _ (k .before .before .before .before .loop .inv) (omega arith) (digit k .0) (omega arith))
 
 mul-value : tie.Need-mul-value Inv-loop μ-loop
 mul-value c = let l = c .before .before .before .before .before .loop in omega (arith, digits-small _ _ _ (l .inv) (omega (arith, l .inv .few)))
@@ -77,7 +74,7 @@ loop-again c =
     rw (c .widen .ensures, d .1) (digits-next _ _ _ (l .inv) (omega arith) (d .0) (omega (arith, l .inv .few)))
 
 returns-3 : tie.Need-returns-3 Inv-loop μ-loop
-returns-3 c = number-false _ _ _ _ (digits-end _ _ _ (c .before .loop .inv) (omega arith))
+returns-3 c = number-false _ _ _ (digits-end _ _ _ (c .before .loop .inv) (omega arith))
 
 pub number-in-front-spec : {M : Type 1} → statement M
 number-in-front-spec =
@@ -91,7 +88,6 @@ number-in-front-spec =
     wrapping-sub-u8-requires
     shared-slice-read-number-ends
     number-ends-requires
-    leading-zeros-requires
     returns
     returns-2
     mul-value

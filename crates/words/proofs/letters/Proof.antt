@@ -5,7 +5,6 @@ use borrow.Author.Needs.{needs}
 use Rattle.text.specs.Ascii.{isCapitalOrDigit}
 use Rattle.text.specs.Runs.{run}
 use Rattle.words.proofs.Texts.{run-short, run-long}
-use borrow.Author.Needs.{needs}
 use Rattle.words.proofs.letters.Statement.{statement}
 use Rattle.words.proofs.letters.Tie as tie
 

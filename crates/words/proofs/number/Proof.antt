@@ -4,32 +4,24 @@ use Prim.Native.Nat.{_≤_}
 use native.Mathlib.Omega.{arith}
 use lib.ListN.{take}
 use borrow.Author.Needs.{needs}
-use Rattle.text.specs.Decimal.{isDigit, isZero}
+use Rattle.text.specs.Decimal.{isDigit}
 use Rattle.text.specs.Runs.{run}
 use Rattle.text.proofs.Runs.{first-few}
-use Rattle.words.specs.Words.{firstEight}
 use Rattle.words.proofs.Texts.{run-short, run-long, value-in-front}
-use borrow.Author.Needs.{needs}
 use Rattle.words.proofs.number.Statement.{statement}
 use Rattle.words.proofs.number.Tie as tie
 
-zeros : (c : tie.After-digits-in) → c .before .zeros-in .result ≡ run isZero (firstEight (c .before .before .before .before .before .args .text .now))
-zeros c = c .before .zeros-in .ensures ∙ ap (run isZero) (c .before .before .gather .ensures) ∙ run-long isZero _ (omega arith)
-
-digits : (c : tie.After-digits-in) → c .digits-in .result ≡ run isDigit (take 8 (c .before .before .before .before .before .args .text .now))
-digits c = c .digits-in .ensures ∙ ap (run isDigit) (c .before .before .gather .ensures)
+digits : (c : tie.After-digits-in) → c .digits-in .result ≡ run isDigit (take 8 (c .before .before .before .before .args .text .now))
+digits c = c .digits-in .ensures ∙ ap (run isDigit) (c .before .gather .ensures)
 
 few : (c : tie.After-digits-in) → c .digits-in .result ≤ 8
-few c = omega (arith, digits c, first-few isDigit 8 (c .before .before .before .before .before .args .text .now))
+few c = omega (arith, digits c, first-few isDigit 8 (c .before .before .before .before .args .text .now))
 
 returns : tie.Need-returns
-returns c = (run-short isZero _ (omega arith), run-short isDigit _ (omega arith), refl)
+returns c = (run-short isDigit _ (omega arith), refl)
 
 gather-requires : tie.Need-gather-requires
 gather-requires c κs = search needs
-
-zeros-in-requires : tie.Need-zeros-in-requires
-zeros-in-requires c κs = search needs
 
 digits-in-requires : tie.Need-digits-in-requires
 digits-in-requires c κs = search needs
@@ -37,7 +29,7 @@ digits-in-requires c κs = search needs
 returns-2 : tie.Need-returns-2
 returns-2 c =
     let e : c .before .digits-in .result ≡ 0 = omega arith in
-    (zeros (c .before), digits (c .before) ∙ run-long isDigit _ (omega arith), rw e)
+    (digits (c .before) ∙ run-long isDigit _ (omega arith), rw e)
 
 mul-value-in : tie.Need-mul-value-in
 mul-value-in c = omega (arith, few (c .before))
@@ -54,7 +46,7 @@ value-in-requires c κs = search needs
 returns-3 : tie.Need-returns-3
 returns-3 c =
     let d = c .before .before in
-    (zeros d, digits d ∙ run-long isDigit _ (omega arith), c .value-in .ensures ∙ value-in-front _ _ _ (d .before .before .gather .ensures) (digits d))
+    (digits d ∙ run-long isDigit _ (omega arith), c .value-in .ensures ∙ value-in-front _ _ _ (d .before .gather .ensures) (digits d))
 
 pub number-spec : {M : Type 1} → statement M
 number-spec =
@@ -62,7 +54,6 @@ number-spec =
     (tie.spec
     returns
     gather-requires
-    zeros-in-requires
     digits-in-requires
     returns-2
     mul-value-in
