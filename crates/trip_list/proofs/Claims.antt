@@ -20,7 +20,7 @@ use Rattle.trip_list.specs.List.{Parsed, trips, refusal, before, parseFr
 use Rattle.trip_list.specs.Lines.{hasLine, firstTrip, lineLength}
 use Rattle.trip_list.specs.Entries.{Entry, linesOf, entriesFrom, entryTrip}
 use Rattle.trip_list.proofs.Lines.{number-small, Three, minuteOf, metresOf, driverOf, texts, line-has, line-trip, line-rest}
-use Rattle.trip_list.proofs.Parsing.{Accepted, line-within, from-end, from-next, parsed-first, parsed-none, list-parsed, accepted, accepted-short, accepted-trips}
+use Rattle.trip_list.proofs.Parsing.{Accepted, line-within, from-end, from-next, parsed-first, parsed-none, list-parsed, accepted-short, accepted-trips}
 use Rattle.trip_list.proofs.Spelling.{spell-shorter, spell-same}
 
 -- ---- which lists are accepted: lines of three texts of the form, with rising minutes, and no others

@@ -17,7 +17,6 @@ use Rattle.text.specs.Decimal.{isDigit, value}
 use Rattle.text.specs.Marks.{LF, comma, isMark, fields}
 use Rattle.text.proofs.Decimal.{numeral}
 use Rattle.text.proofs.Marks.{isOther, parts-after, parts-alone, between, parts-between}
-use Rattle.trip_list.specs.declared.Line as line
 use Rattle.trip_list.specs.Trip.{trip, greatestNumber, isDriverByte, isNumber, isDriver, field, hasForm, tripOf, lineOf}
 use Rattle.trip_list.specs.Lines.{firstLine, hasLine, firstTrip, lineLength, driverStart}
 

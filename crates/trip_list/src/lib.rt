@@ -411,7 +411,7 @@ fn put_line(list: &[u8], at: usize, line: Line, output: &mut [u8], end: usize) -
     let third = kept.third;
     let next = at + line.length;
     let middle = end + (second - first);
-    // Windows where the list has them: the second is laid over what the first has too many.
+    // Windows where the list has them: the second is laid over what the first has beyond its piece.
     if list.len() - third >= MAX_LINE {
         put_window(output, end, list, first);
         put_window(output, middle, list, third);

@@ -1,5 +1,4 @@
 -- `trip_list::is_driver_byte` meets its contract: a letter, or a digit.
-use mathlib.Core.Path.{_≡_}
 use native.Mathlib.Omega.{arith}
 use borrow.Author.Needs.{needs}
 use Rattle.trip_list.proofs.Runs.{a-letter, no-letter}

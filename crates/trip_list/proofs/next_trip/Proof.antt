@@ -1,5 +1,4 @@
 -- `trip_list::next_trip` meets its contract: each case of the line is one of the cursor.
-use mathlib.Core.Path.{_≡_}
 use native.Mathlib.Omega.{arith}
 use borrow.Author.Needs.{needs}
 use Rattle.trip_list.specs.Scanner.{LineAt}

@@ -1,5 +1,5 @@
 -- `trip_list::read` meets its contract: what one pass finds, and the place against the count.
-use mathlib.Core.Path.{_≡_, sym}
+use mathlib.Core.Path.{sym}
 use native.Mathlib.Omega.{arith}
 use borrow.Author.Needs.{needs}
 use Rattle.trip_list.proofs.Parsing.{accepted}

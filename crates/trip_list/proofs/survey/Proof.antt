@@ -1,5 +1,4 @@
 -- `trip_list::survey` meets its contract: `count` lines stand before index `at`.
-use mathlib.Core.Path.{_≡_}
 use Prim.Native.Nat.{_-_, _≤_}
 use native.Mathlib.Omega.{arith}
 use lib.ListN.{length}
