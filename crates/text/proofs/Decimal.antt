@@ -14,7 +14,7 @@ use borrow.Author.Tests.{eqb-true, eqb-false, eq-eqb, ne-eqb, leb-true, le-leb, 
 use borrow.Table.Steps.{cases}
 use Rattle.scan.specs.Scan.{every}
 use Rattle.scan.proofs.Scan.{and-left, and-right, allOf-at, every-at, every-join}
-use Rattle.text.specs.Decimal.{isDigit, valueFrom, value, isNumeral, digitsIn, digitsBound, decimal, leadingZeros}
+use Rattle.text.specs.Decimal.{isDigit, isZero, valueFrom, value, isNumeral, digitsIn, digitsBound, decimal, leadingZeros}
 
 -- ---- digits
 
@@ -259,7 +259,7 @@ pub zeros-none : (ds : List ℕ) → ZerosTo ds 0
 zeros-none ds = record { so-far = omega arith }
 
 -- i zeros before the last digit
-pub zeros-before : (i : ℕ) (ds : List ℕ) → every (λ c. eqb c 48) (take i ds) ≡ true → i < length ds → ZerosTo ds i
+pub zeros-before : (i : ℕ) (ds : List ℕ) → every isZero (take i ds) ≡ true → i < length ds → ZerosTo ds i
 zeros-before zero ds e h = zeros-none ds
 zeros-before (suc i) [] e h = absurd (not-suc-le-zero h)
 zeros-before (suc i) (c ∷ []) e h = absurd (omega arith)

@@ -19,7 +19,7 @@ use Rattle.text.specs.Runs.{run, front}
 
 -- ---- runs
 
-pub run-le : (t : ℕ → Bool) (s : List ℕ) → run t s ≤ length s
+run-le : (t : ℕ → Bool) (s : List ℕ) → run t s ≤ length s
 unfolding run
 run-le t s = first-le (λ c. not (t c)) s
 

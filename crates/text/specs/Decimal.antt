@@ -29,7 +29,7 @@ isNumeral most limit text = allOf (leb 1 (length text) ∷ leb (length text) mos
 abbrev pub leadingZeros : List ℕ → ℕ
 leadingZeros [] = 0
 leadingZeros (c ∷ []) = 0
-leadingZeros (c ∷ d ∷ ds) = cond (eqb c (code "0")) (suc (leadingZeros (d ∷ ds))) 0
+leadingZeros (c ∷ d ∷ ds) = cond (isZero c) (suc (leadingZeros (d ∷ ds))) 0
 
 -- the decimal digits of n, with no zero before them; k is at least their number
 abbrev pub digitsIn : ℕ → ℕ → List ℕ

@@ -1,4 +1,4 @@
--- Laws of the runs of bytes in front of a text: a number with its comma, a driver with its LF.
+-- Laws of the runs of bytes in front of a text: a number with its comma, its leading zeros, a driver with its LF.
 use mathlib.Core.Path.{_≡_, refl, sym, ap, _∙_}
 use mathlib.Core.Bool.{Bool, true, false, _&&_, false≢true}
 use mathlib.Core.List.{List}
@@ -86,16 +86,16 @@ module _ (s : List ℕ) (i n : ℕ) (d : Digits s i n) where
         rw (le-leb _ _ f, lt-leb _ _ l)
 
     module _ (e : isDigit (getD s i 0) ≡ false) where
-      pub digits-run : i ≡ run isDigit s
+      digits-run : i ≡ run isDigit s
       digits-run = sym (passed-here isDigit s i (d .passed) h e)
 
       digits-front : take i s ≡ front isDigit s
       digits-front = sym (passed-front isDigit s i (d .passed) (sym digits-run))
 
-      pub digits-value : n ≡ value (front isDigit s)
+      digits-value : n ≡ value (front isDigit s)
       digits-value = d .valued ∙ ap value digits-front
 
-      pub digits-ended : leb 1 i && (leb n greatestNumber && eqb (getD s i 0) comma) ≡ numberField s
+      digits-ended : leb 1 i && (leb n greatestNumber && eqb (getD s i 0) comma) ≡ numberField s
       unfolding numberField isNumeral
       digits-ended =
           let l : length (front isDigit s) ≡ i = length-run isDigit s ∙ sym digits-run in

@@ -36,7 +36,7 @@ struct Number {
     digits: usize,
 }
 
-// Whether so many digits of this value are a number, with the comma after it.
+// Whether so many digits, at most ten, of this value are a number, with the comma after it.
 fn number_ends(value: usize, digits: usize, mark: u8) -> bool
     ensures { λ r. ⌜ r ≡ (leb 1 digits && (leb value greatestNumber && eqb mark comma)) ⌝ }
 {
@@ -135,9 +135,9 @@ struct Line {
     fits: bool,
     minute: usize,
     metres: usize,
-    // Where the metres begin.
+    // Where in the line the metres begin.
     second: usize,
-    // Where the driver begins, and its length.
+    // Where the driver begins there, and its length.
     driver: usize,
     letters: usize,
     // With its LF.
@@ -343,7 +343,7 @@ fn leading_zeros(text: &[u8], digits: usize) -> usize
     i
 }
 
-// Where the digits begin that a spelling keeps, of the minute and of the metres.
+// Where in the list the digits begin that a spelling keeps, of the minute and of the metres.
 struct Kept {
     first: usize,
     third: usize,

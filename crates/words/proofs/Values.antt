@@ -21,7 +21,7 @@ evens k zero = 0
 evens k (suc m) = evens k m * 2 ^ (k + k) + (2 ^ k - 1)
 
 -- twice m, so that lanes unfold by pairs
-abbrev pub twice : ℕ → ℕ
+abbrev twice : ℕ → ℕ
 twice zero = zero
 twice (suc m) = suc (suc (twice m))
 
@@ -35,8 +35,8 @@ joined c (a ∷ b ∷ ds) = (a * c + b) ∷ joined c ds
 abbrev pub joinedIn : ℕ → ℕ → ℕ → ℕ → ℕ
 joinedIn k m c y = bitAnd y (evens k m) * c + bitAnd (y / 2 ^ k) (evens k m)
 
-low-field : (k y e : ℕ) → bitAnd y (e * 2 ^ (k + k) + (2 ^ k - 1)) ≡ bitAnd (y / 2 ^ (k + k)) e * 2 ^ (k + k) + y % 2 ^ k
-low-field k y e =
+low-lane : (k y e : ℕ) → bitAnd y (e * 2 ^ (k + k) + (2 ^ k - 1)) ≡ bitAnd (y / 2 ^ (k + k)) e * 2 ^ (k + k) + y % 2 ^ k
+low-lane k y e =
     ap (λ (n : ℕ). bitAnd n (e * 2 ^ (k + k) + (2 ^ k - 1))) (sym (split y (k + k)))
     ∙ and-block (k + k) (y / 2 ^ (k + k)) e (y % 2 ^ (k + k)) (2 ^ k - 1) (mod-lt y (pow-pos (k + k))) (lt-of-lt-of-le (ones-lt k) (pow-mono (le-add-right k k)))
     ∙ ap (λ (n : ℕ). bitAnd (y / 2 ^ (k + k)) e * 2 ^ (k + k) + n) (and-mask (y % 2 ^ (k + k)) k ∙ mod-mod-pow y k k)
@@ -58,19 +58,19 @@ module _ (k c : ℕ) where
 
   joined-suc : (m y : ℕ) → joinedIn k (suc m) c y ≡ joinedIn k m c (y / 2 ^ (k + k)) * 2 ^ (k + k) + pair y
   joined-suc m y =
-      ap₂ (λ (p q : ℕ). p * c + q) (low-field k y (evens k m)) (low-field k (y / 2 ^ k) (evens k m))
+      ap₂ (λ (p q : ℕ). p * c + q) (low-lane k y (evens k m)) (low-lane k (y / 2 ^ k) (evens k m))
       ∙ join-sums (bitAnd (y / 2 ^ (k + k)) (evens k m)) (bitAnd (y / 2 ^ k / 2 ^ (k + k)) (evens k m)) c (2 ^ (k + k)) (y % 2 ^ k) (y / 2 ^ k % 2 ^ k)
       ∙ ap (λ (n : ℕ). (bitAnd (y / 2 ^ (k + k)) (evens k m) * c + bitAnd n (evens k m)) * 2 ^ (k + k) + pair y) (shift-swap k y)
 
--- every field is at most t
-abbrev pub atMost : ℕ → List ℕ → Bool
+-- every lane is at most t
+abbrev atMost : ℕ → List ℕ → Bool
 atMost t = every (λ d. leb d t)
 
 module _ (k c t : ℕ) (room : t * c + t < 2 ^ (k + k)) where
   pair-most : (y : ℕ) → y % 2 ^ k ≤ t → y / 2 ^ k % 2 ^ k ≤ t → pair k c y ≤ t * c + t
   pair-most y f g = add-le-add (mul-le-mul-right c f) g
 
-  pub joined-lanes : (m y : ℕ) → atMost t (lanes k (twice m) y) ≡ true
+  joined-lanes : (m y : ℕ) → atMost t (lanes k (twice m) y) ≡ true
       → (lanes (k + k) m (joinedIn k m c y) ≡ joined c (lanes k (twice m) y)) × (joinedIn k m c y < (2 ^ (k + k)) ^ m) × (atMost (t * c + t) (joined c (lanes k (twice m) y)) ≡ true)
   joined-lanes zero y h = (refl, rw (and-zero-r y, and-zero-r (y / 2 ^ k)) (omega (arith, pow-zero (2 ^ (k + k)), zero-mul c)), refl)
   joined-lanes (suc m) y h =
@@ -87,8 +87,8 @@ module _ (k c t : ℕ) (room : t * c + t < 2 ^ (k + k)) where
         and-both _ _ (le-leb _ _ l) (i .2),
       )
 
--- the digits of a number in base c are those in base c², joined
-pub joined-value : (k c m y n : ℕ) → inBase (c * c) n (joined c (lanes k (twice m) y)) ≡ inBase c n (lanes k (twice m) y)
+-- the digits of a number in base c² are those in base c, joined
+joined-value : (k c m y n : ℕ) → inBase (c * c) n (joined c (lanes k (twice m) y)) ≡ inBase c n (lanes k (twice m) y)
 joined-value k c zero y n = refl
 joined-value k c (suc m) y n =
     let a : ℕ = y % 2 ^ k in
@@ -97,7 +97,7 @@ joined-value k c (suc m) y n =
     ap (λ (x : ℕ). inBase (c * c) x (joined c (lanes k (twice m) (y / 2 ^ k / 2 ^ k)))) e ∙ joined-value k c m (y / 2 ^ k / 2 ^ k) ((n * c + a) * c + b)
 
 -- the low halves of n bytes
-pub nibbles : (n y : ℕ) → lanes 8 n (bitAnd y (copies 15 n)) ≡ map (λ b. b % 16) (lanes 8 n y)
+nibbles : (n y : ℕ) → lanes 8 n (bitAnd y (copies 15 n)) ≡ map (λ b. b % 16) (lanes 8 n y)
 nibbles zero y = refl
 nibbles (suc n) y =
     let e : bitAnd y (copies 15 (suc n)) % 256 ≡ y % 256 % 16 =

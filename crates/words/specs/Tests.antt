@@ -1,4 +1,5 @@
--- Tests of n bytes at once: a byte that fails sets its highest bit. One of 128 or more may set bits of those above it too.
+-- Tests of n bytes at once: the highest bit of a byte is set exactly where it fails, up to the first byte of 128 or more. That one may spoil
+-- the bits above its own.
 use Prim.Native.Nat.{ℕ, zero, suc, _+_, _*_, _%_, _^_}
 use lib.Bits.{bitAnd, bitOr, bitXor}
 

@@ -14,14 +14,14 @@ lanes k (suc m) y = y % 2 ^ k ∷ lanes k m (y / 2 ^ k)
 unfoldable pub bytesOf : ℕ → List ℕ
 bytesOf y = lanes 8 8 y
 
--- the first eight bytes of a text; none of one that has fewer
+-- the first eight bytes of a text, none of one that has fewer: how many, and these bytes
 abbrev pub eightOrNone : List ℕ → ℕ
 eightOrNone s = cond (leb 8 (length s)) 8 0
 
 unfoldable pub firstEight : List ℕ → List ℕ
 firstEight s = take (eightOrNone s) s
 
--- the number of digits in base c, where those before them are n
+-- the value of digits in base c, where those before them have value n
 abbrev pub inBase : ℕ → ℕ → List ℕ → ℕ
 inBase c n [] = n
 inBase c n (d ∷ ds) = inBase c (n * c + d) ds

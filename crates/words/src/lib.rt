@@ -18,24 +18,24 @@ const ZEROS: u64 = 0x3030303030303030;
 
 const HIGHEST: u64 = 0x8080808080808080;
 
-// The highest bit of each byte that is no digit is set, up to the first of them at least.
+// The highest bit of a byte is set exactly where it is no digit, up to the first byte of 128 or more.
 fn no_digit(word: u64) -> u64
     ensures { λ r. ⌜ r ≡ noDigit 8 word ⌝ }
 {
     word | std::num::wrapping_add_u64(word ^ ZEROS, 0x7676767676767676)
 }
 
-// And of each that is no capital letter.
+// The same where it is no capital letter.
 fn no_capital(word: u64) -> u64
     ensures { λ r. ⌜ r ≡ noCapital 8 word ⌝ }
 {
-    let letters = word ^ 0x4040404040404040;
-    let above = std::num::wrapping_add_u64(letters, 0x6565656565656565);
-    let below = std::num::wrapping_add_u64(letters, 0x7f7f7f7f7f7f7f7f) ^ HIGHEST;
+    let letter = word ^ 0x4040404040404040;
+    let above = std::num::wrapping_add_u64(letter, 0x6565656565656565);
+    let below = std::num::wrapping_add_u64(letter, 0x7f7f7f7f7f7f7f7f) ^ HIGHEST;
     word | above | below
 }
 
-// The bytes below the one with the lowest set bit.
+// The bytes below the one with the lowest set bit; all eight where none is set.
 fn bytes_below(marks: u64) -> usize
     ensures { λ r. ⌜ r ≡ trailingZeros 64 marks / 8 ⌝ }
 {
