@@ -14,7 +14,7 @@ use borrow.Table.Steps.{cases}
 use Rattle.memory.proofs.Bytes.{length-front}
 use Rattle.scan.specs.Scan.{every}
 use Rattle.scan.proofs.Scan.{every-impl, first-le, first-join}
-use Rattle.scan.proofs.Loops.{searched-next, searched-here}
+use Rattle.scan.proofs.Loops.{Searched, searched-next, searched-here}
 use Rattle.text.specs.Runs.{run, front}
 
 -- ---- runs
@@ -66,9 +66,9 @@ front-split t s c e h = sym (take-append-drop (run t s) s) ∙ rw (drop-cons s (
 
 -- ---- a search for the end of a run
 
--- i bytes pass
-pub record Passed (t : ℕ → Bool) (s : List ℕ) (i : ℕ) : Type 0 where
-  pub so-far : run t s ≡ i + run t (drop i s)
+-- i bytes pass: none of them is the first that fails
+abbrev pub Passed : (ℕ → Bool) → List ℕ → ℕ → Type 0
+Passed t s i = Searched (λ c. not (t c)) s i
 
 -- those among the first n bytes
 pub passed-first : (t : ℕ → Bool) (n : ℕ) (s : List ℕ) → Passed t s (run t (take n s))
@@ -83,15 +83,18 @@ passed-first t (suc n) (x ∷ xs) =
 module _ (t : ℕ → Bool) (s : List ℕ) (i : ℕ) (p : Passed t s i) where
   pub passed-here : i < length s → t (getD s i 0) ≡ false → run t s ≡ i
   unfolding run
-  passed-here h e = sym (searched-here {t = λ c. not (t c)} {xs = s} 0 (record { so-far = p .so-far }) h (rw e))
+  passed-here h e = sym (searched-here 0 p h (rw e))
 
   pub passed-next : i < length s → t (getD s i 0) ≡ true → Passed t s (i + 1)
-  unfolding run
-  passed-next h e = let q = searched-next {t = λ c. not (t c)} {xs = s} 0 (record { so-far = p .so-far }) h (rw e) in record { so-far = q .so-far }
+  passed-next h e = searched-next 0 p h (rw e)
 
   pub passed-end : length s ≤ i → run t s ≡ i
   unfolding run
   passed-end h = p .so-far ∙ rw (drop-of-length-le s h) (omega arith)
+
+  pub passed-few : i ≤ run t s
+  unfolding run
+  passed-few = omega (arith, p .so-far)
 
   pub passed-front : run t s ≡ i → front t s ≡ take i s
   unfolding front

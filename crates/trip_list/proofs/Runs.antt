@@ -20,8 +20,12 @@ use Rattle.text.proofs.Decimal.{digit-bounds, is-digit, not-digit-below, not-di
 use Rattle.words.specs.Words.{eightOrNone, firstEight}
 use Rattle.trip_list.specs.Trip.{greatestNumber, isDriverByte, isNumber, isDriver}
 use Rattle.text.specs.Runs.{run, front}
-use Rattle.text.proofs.Runs.{length-run, front-every, first-few, first-within, first-every, Passed, passed-first, passed-next, passed-here, passed-end, passed-front}
-use Rattle.trip_list.specs.Scanner.{numberField, driverField, NumberRead, DriverRead}
+use Rattle.text.proofs.Runs.{length-run, front-every, first-few, first-within, first-every, Passed, passed-first, passed-next, passed-here, passed-end, passed-few, passed-front}
+use Rattle.trip_list.specs.Scanner.{numberField, driverField, Reading, NumberRead, DriverRead}
+
+-- no such field
+pub nothing-read : {isThere : Bool} {facts : Type 0} → false ≡ isThere → Reading false isThere facts
+nothing-read e = record { told = e; read = λ h. absurd (false≢true h) }
 
 -- ---- a number and the comma after it
 
@@ -46,9 +50,6 @@ digits-first s i n e v =
     let d : every isDigit (take i s) ≡ true = ap (λ (k : ℕ). every isDigit (take k s)) e ∙ first-every isDigit w s in
     let l : length (take i s) ≡ i = length-front i s (omega (arith, first-within isDigit w s)) in
     record { passed = rw e (passed-first isDigit w s); valued = v; bound = rw v (rw l at (value-small (take i s) d)); few = omega (arith, first-few isDigit w s) }
-
-pub number-false : (s : List ℕ) (n k : ℕ) → false ≡ numberField s → NumberRead s false n k
-number-false s n k e = record { told = e; read = λ h. absurd (false≢true h) }
 
 and-none : (a b : Bool) → b ≡ false → false ≡ a && b
 and-none true b e = sym e
@@ -81,7 +82,7 @@ module _ (s : List ℕ) (i n : ℕ) (d : Digits s i n) where
     unfolding numberField isNumeral
     digits-many e k =
         let p = passed-next isDigit s i (d .passed) h e in
-        let l : 10 < length (front isDigit s) = omega (arith, p .so-far, length-run isDigit s) in
+        let l : 10 < length (front isDigit s) = omega (arith, passed-few isDigit s (i + 1) p, length-run isDigit s) in
         let f : 1 ≤ length (front isDigit s) = omega arith in
         rw (le-leb _ _ f, lt-leb _ _ l)
 
@@ -115,9 +116,6 @@ zeros-first s digits z i e f h l =
     zeros-before i (take digits s) (ap (every isZero) (take-take i digits s (omega arith)) ∙ b) (omega (arith, length-front digits s l))
 
 -- ---- a driver and the LF after it
-
-pub driver-false : (s : List ℕ) (n : ℕ) → false ≡ driverField s → DriverRead s false n
-driver-false s n e = record { told = e; read = λ h. absurd (false≢true h) }
 
 module _ (s : List ℕ) (i : ℕ) (p : Passed isDriverByte s i) where
   pub letters-end : length s ≤ i → false ≡ driverField s

@@ -63,9 +63,6 @@ driver-split s e = field-split 9 isDriverByte isDriver s e
 
 -- ---- a line
 
-pub line-false : (s : List ℕ) (l : line.Line) → l .fits ≡ false → false ≡ hasLine s → LineRead s l
-line-false s l e h = record { told = e ∙ h; read = λ q. absurd (false≢true (sym e ∙ q)) }
-
 -- a line would have had the field
 no-line : (s : List ℕ) (b isField : Bool) → (Texts s → isField ≡ true) → b ≡ isField → b ≡ false → false ≡ hasLine s
 no-line s b isField has told e = sym (is-false (hasLine s) (λ h. false≢true (sym e ∙ told ∙ has (texts s h))))

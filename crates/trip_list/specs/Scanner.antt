@@ -30,14 +30,18 @@ numberField = fieldBefore comma isDigit isNumber
 unfoldable pub driverField : List ℕ → Bool
 driverField = fieldBefore LF isDriverByte isDriver
 
--- the field in front is a number exactly where `fits`; then these are its value and its digits
-pub record NumberRead (s : List ℕ) (fits : Bool) (n digits : ℕ) : Type 0 where
-  pub told : fits ≡ numberField s
-  pub read : fits ≡ true → (n ≡ value (front isDigit s)) × (digits ≡ run isDigit s)
+-- told whether there is such a field, and where there is, facts of it
+pub record Reading (fits isThere : Bool) (facts : Type 0) : Type 0 where
+  pub told : fits ≡ isThere
+  pub read : fits ≡ true → facts
 
-pub record DriverRead (s : List ℕ) (fits : Bool) (n : ℕ) : Type 0 where
-  pub told : fits ≡ driverField s
-  pub read : fits ≡ true → n ≡ run isDriverByte s
+-- a number in front: its value and its digits
+abbrev pub NumberRead : List ℕ → Bool → ℕ → ℕ → Type 0
+NumberRead s fits n digits = Reading fits (numberField s) ((n ≡ value (front isDigit s)) × (digits ≡ run isDigit s))
+
+-- a driver in front: its letters
+abbrev pub DriverRead : List ℕ → Bool → ℕ → Type 0
+DriverRead s fits n = Reading fits (driverField s) (n ≡ run isDriverByte s)
 
 -- the numbers of the line in front, where its metres and its driver begin, and its length
 pub record LineFields (s : List ℕ) (l : line.Line) : Type 0 where
@@ -48,9 +52,8 @@ pub record LineFields (s : List ℕ) (l : line.Line) : Type 0 where
   pub letters : l .letters ≡ length (firstTrip s .driver)
   pub size : l .length ≡ lineLength s
 
-pub record LineRead (s : List ℕ) (l : line.Line) : Type 0 where
-  pub told : l .fits ≡ hasLine s
-  pub read : l .fits ≡ true → LineFields s l
+abbrev pub LineRead : List ℕ → line.Line → Type 0
+LineRead s l = Reading (l .fits) (hasLine s) (LineFields s l)
 
 -- the longest line of the form: two numbers of ten digits, a driver of sixteen letters, and a mark after each
 abbrev pub greatestLine : ℕ

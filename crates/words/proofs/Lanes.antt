@@ -35,8 +35,15 @@ lanewise-copies c h = record { low = λ n y. digits-mod (copies c n) h; high = �
 byte-pos : 0 < 256
 byte-pos = omega arith
 
-pow-byte : (n : ℕ) → 0 < 256 ^ n
-pow-byte n = one-le-pow n 256 byte-pos
+wrap : (n x : ℕ) → x % 256 ^ suc n ≡ (x / 256 % 256 ^ n) * 256 + x % 256
+wrap n x = ap (λ (m : ℕ). x % m) (pow-suc 256 n) ∙ mod-mul x (one-le-pow n 256 byte-pos) byte-pos
+
+-- the lowest byte of n + 1 that wrap, and the others
+pub wrap-low : (n x : ℕ) → x % 256 ^ suc n % 256 ≡ x % 256
+wrap-low n x = ap (λ (m : ℕ). m % 256) (wrap n x) ∙ digits-mod (x / 256 % 256 ^ n) (mod-lt x byte-pos)
+
+pub wrap-high : (n x : ℕ) → x % 256 ^ suc n / 256 ≡ x / 256 % 256 ^ n
+wrap-high n x = ap (λ (m : ℕ). m / 256) (wrap n x) ∙ digits-div (x / 256 % 256 ^ n) (mod-lt x byte-pos)
 
 module _ {F G : ℕ → ℕ → ℕ} {f g : ℕ → ℕ} (a : Lanewise F f) (b : Lanewise G g) where
   -- an operation on bits
@@ -62,16 +69,14 @@ module _ {F G : ℕ → ℕ → ℕ} {f g : ℕ → ℕ} (a : Lanewise F f) (b :
     low = λ n y.
         let x : ℕ = F (suc n) y + G (suc n) y in
         let s : x % 256 ≡ (F (suc n) y % 256 + G (suc n) y % 256) % 256 = omega arith in
-        ap (λ (m : ℕ). x % m % 256) (pow-suc 256 n) ∙ ap (λ (m : ℕ). m % 256) (mod-mul x (pow-byte n) byte-pos)
-        ∙ digits-mod (x / 256 % 256 ^ n) (mod-lt x byte-pos) ∙ s ∙ ap₂ (λ (p q : ℕ). (p + q) % 256) (a .low n y) (b .low n y);
+        wrap-low n x ∙ s ∙ ap₂ (λ (p q : ℕ). (p + q) % 256) (a .low n y) (b .low n y);
     high = λ n y h.
         let x : ℕ = F (suc n) y + G (suc n) y in
         let r = room (y % 256) h in
         let p = a .low n y in
         let q = b .low n y in
         let s : x / 256 ≡ F (suc n) y / 256 + G (suc n) y / 256 = omega arith in
-        ap (λ (m : ℕ). x % m / 256) (pow-suc 256 n) ∙ ap (λ (m : ℕ). m / 256) (mod-mul x (pow-byte n) byte-pos)
-        ∙ digits-div (x / 256 % 256 ^ n) (mod-lt x byte-pos) ∙ ap (λ (m : ℕ). m % 256 ^ n) (s ∙ ap₂ (λ (p q : ℕ). p + q) (a .high n y h) (b .high n y h));
+        wrap-high n x ∙ ap (λ (m : ℕ). m % 256 ^ n) (s ∙ ap₂ (λ (p q : ℕ). p + q) (a .high n y h) (b .high n y h));
   }
 
 -- ---- the zeros below the lowest set bit

@@ -4,9 +4,9 @@ use mathlib.Core.Bool.{Bool, true}
 use mathlib.Core.List.{List, [], _∷_, _++_, map}
 use Prim.Native.Nat.{ℕ, zero, suc, _+_, _-_, _*_, _/_, _%_, _^_, _≤_, _<_}
 use native.Mathlib.Omega.{arith}
-use native.Mathlib.Nat.{pow-zero, pow-suc, pow-le-pow-right, one-le-pow, lt-of-lt-of-le, zero-add, suc-add, mul-one, mul-assoc, mul-suc}
+use native.Mathlib.Nat.{pow-zero, pow-suc, pow-le-pow-right, lt-of-lt-of-le, zero-add, suc-add, mul-one, mul-assoc, mul-suc}
 use lib.Pow.{pow-add}
-use lib.Arith.{digits-div, digits-mod, digits-lt, mod-mul}
+use lib.Arith.{digits-div, digits-mod, digits-lt}
 use lib.ListN.{length, getD, take, drop, drop-of-length-le}
 use lib.Seq.{drop-cons, getD-take, take-take}
 use Rattle.memory.proofs.Bytes.{length-front}
@@ -18,6 +18,7 @@ use Rattle.text.specs.Decimal.{isDigit, valueFrom, value}
 use Rattle.text.specs.Runs.{run}
 use Rattle.text.proofs.Decimal.{digit-bounds}
 use Rattle.text.proofs.Runs.{first-few, first-within, first-every}
+use Rattle.words.proofs.Lanes.{wrap-low, wrap-high}
 use Rattle.words.specs.Words.{lanes, bytesOf, firstEight, inBase}
 
 -- a loop from the last byte to the first: the word has the bytes from i on, and no others
@@ -59,10 +60,7 @@ lanes-take (suc m) (suc n) y h = ap (λ (xs : List ℕ). y % 256 ∷ xs) (lanes-
 -- what wraps has no lanes
 lanes-mod : (n y : ℕ) → lanes 8 n (y % 256 ^ n) ≡ lanes 8 n y
 lanes-mod zero y = refl
-lanes-mod (suc n) y =
-    let r : y % 256 < 256 = omega arith in
-    let e : y % 256 ^ suc n ≡ (y / 256 % 256 ^ n) * 256 + y % 256 = ap (λ (m : ℕ). y % m) (pow-suc 256 n) ∙ mod-mul y (one-le-pow n 256 (omega arith)) (omega arith) in
-    rw (e, digits-mod (y / 256 % 256 ^ n) r, digits-div (y / 256 % 256 ^ n) r) (ap (λ (xs : List ℕ). y % 256 ∷ xs) (lanes-mod n (y / 256)))
+lanes-mod (suc n) y = ap₂ _∷_ (wrap-low n y) (ap (lanes 8 n) (wrap-high n y) ∙ lanes-mod n (y / 256))
 
 -- k bytes up
 lanes-shift : (k m y : ℕ) → lanes 8 (k + m) (y * 256 ^ k) ≡ zeros k ++ lanes 8 m y

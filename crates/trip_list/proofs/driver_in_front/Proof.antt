@@ -7,7 +7,7 @@ use borrow.Author.Needs.{needs}
 use Rattle.words.specs.Words.{eightOrNone, firstEight}
 use Rattle.trip_list.specs.Trip.{isDriverByte}
 use Rattle.text.proofs.Runs.{Passed, passed-first, passed-next}
-use Rattle.trip_list.proofs.Runs.{driver-false, letters-end, letters-none, letters-many, letters-read}
+use Rattle.trip_list.proofs.Runs.{nothing-read, letters-end, letters-none, letters-many, letters-read}
 use Rattle.trip_list.proofs.driver_in_front.Statement.{statement}
 use Rattle.trip_list.proofs.driver_in_front.Tie as tie
 
@@ -37,15 +37,15 @@ loop-less : tie.Need-loop-less Inv-loop μ-loop
 loop-less c = search needs
 
 loop-again : tie.Need-loop-again Inv-loop μ-loop
-loop-again c = passed-next _ _ _ (c .before .before .before .before .loop .inv) (omega arith) (sym (c .before .is-driver-byte .ensures) ∙ c .if1 .taken)
+loop-again c = passed-next isDriverByte _ _ (c .before .before .before .before .loop .inv) (omega arith) (sym (c .before .is-driver-byte .ensures) ∙ c .if1 .taken)
 
 returns : tie.Need-returns Inv-loop μ-loop
 returns c =
-    driver-false _ _ (letters-none _ _ (c .before .before .before .before .before .loop .inv) (omega arith) (sym (c .before .before .is-driver-byte .ensures) ∙ c .before .if1 .left) (omega arith))
+    nothing-read (letters-none _ _ (c .before .before .before .before .before .loop .inv) (omega arith) (sym (c .before .before .is-driver-byte .ensures) ∙ c .before .if1 .left) (omega arith))
 
 returns-2 : tie.Need-returns-2 Inv-loop μ-loop
 returns-2 c =
-    driver-false _ _ (letters-many _ _ (c .before .before .before .before .before .before .loop .inv) (omega arith) (sym (c .before .before .before .is-driver-byte .ensures) ∙ c .before .before .if1 .left) (omega arith))
+    nothing-read (letters-many _ _ (c .before .before .before .before .before .before .loop .inv) (omega arith) (sym (c .before .before .before .is-driver-byte .ensures) ∙ c .before .before .if1 .left) (omega arith))
 
 shared-slice-read-t10 : tie.Need-shared-slice-read-t10 Inv-loop μ-loop
 shared-slice-read-t10 c = search needs
@@ -55,7 +55,7 @@ returns-3 c =
     letters-read _ _ (c .before .before .before .before .before .before .before .loop .inv) (omega arith) (sym (c .before .before .before .before .is-driver-byte .ensures) ∙ c .before .before .before .if1 .left) (omega arith) (omega arith)
 
 returns-4 : tie.Need-returns-4 Inv-loop μ-loop
-returns-4 c = driver-false _ _ (letters-end _ _ (c .before .loop .inv) (omega arith))
+returns-4 c = nothing-read (letters-end _ _ (c .before .loop .inv) (omega arith))
 
 pub driver-in-front-spec : {M : Type 1} → statement M
 driver-in-front-spec =

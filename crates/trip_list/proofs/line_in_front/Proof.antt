@@ -1,11 +1,11 @@
 -- `trip_list::line_in_front` meets its contract: field by field.
-use mathlib.Core.Path.{refl}
 use Prim.Native.Nat.{_+_, _≤_}
 use native.Mathlib.Omega.{arith}
 use lib.ListN.{length}
 use borrow.Author.Needs.{needs}
 use Rattle.memory.proofs.Bytes.{rest-whole}
-use Rattle.trip_list.proofs.Scanning.{no-minute, second-within, no-metres, third-within, no-driver, end-within, line-found, line-false}
+use Rattle.trip_list.proofs.Runs.{nothing-read}
+use Rattle.trip_list.proofs.Scanning.{no-minute, second-within, no-metres, third-within, no-driver, end-within, line-found}
 use Rattle.trip_list.proofs.line_in_front.Statement.{statement}
 use Rattle.trip_list.proofs.line_in_front.Tie as tie
 
@@ -85,18 +85,18 @@ returns-2 c =
     let k = c .before .before .before in
     let m = k .before .before .before .before in
     let s = m .before .before .before .before .args .text .now in
-    line-false s _ refl
+    nothing-read
     (no-driver s _ _ _ (m .before .before .number-in-front .ensures) (m .before .if1 .taken) _ (rest-whole _ s) _ _ _ (k .before .before .number-in-front2 .ensures) (k .before .if2 .taken) _ (rest-whole _ s) _ _ (c .before .driver-in-front .ensures) (c .if3 .left))
 
 returns-3 : tie.Need-returns-3
 returns-3 c =
     let m = c .before .before .before in
     let s = m .before .before .before .before .args .text .now in
-    line-false s _ refl
+    nothing-read
     (no-metres s _ _ _ (m .before .before .number-in-front .ensures) (m .before .if1 .taken) _ (rest-whole _ s) _ _ _ (c .before .number-in-front2 .ensures) (c .if2 .left))
 
 returns-4 : tie.Need-returns-4
-returns-4 c = line-false _ _ refl (no-minute _ _ _ _ (c .before .number-in-front .ensures) (c .if1 .left))
+returns-4 c = nothing-read (no-minute _ _ _ _ (c .before .number-in-front .ensures) (c .if1 .left))
 
 pub line-in-front-spec : {M : Type 1} → statement M
 line-in-front-spec =

@@ -6,7 +6,7 @@ use native.Mathlib.Omega.{arith}
 use lib.ListN.{length, getD}
 use borrow.Author.Needs.{needs}
 use Rattle.text.specs.Decimal.{isDigit}
-use Rattle.trip_list.proofs.Runs.{Digits, digits-first, digits-next, digits-small, digits-end, digits-many, digits-read, number-false, digit-found, no-digit-found}
+use Rattle.trip_list.proofs.Runs.{Digits, digits-first, digits-next, digits-small, digits-end, digits-many, digits-read, nothing-read, digit-found, no-digit-found}
 use Rattle.trip_list.proofs.number_in_front.Statement.{statement}
 use Rattle.trip_list.proofs.number_in_front.Tie as tie
 
@@ -49,7 +49,7 @@ returns c =
 returns-2 : tie.Need-returns-2 Inv-loop μ-loop
 returns-2 c =
     let k = c .before in
-    number-false _ _ _ (digits-many _ _ _ (k .before .before .before .before .loop .inv) (omega arith) (digit k .0) (omega arith))
+    nothing-read (digits-many _ _ _ (k .before .before .before .before .loop .inv) (omega arith) (digit k .0) (omega arith))
 
 mul-value : tie.Need-mul-value Inv-loop μ-loop
 mul-value c = let l = c .before .before .before .before .before .loop in omega (arith, digits-small _ _ _ (l .inv) (omega (arith, l .inv .few)))
@@ -74,7 +74,7 @@ loop-again c =
     rw (c .widen .ensures, d .1) (digits-next _ _ _ (l .inv) (omega arith) (d .0) (omega (arith, l .inv .few)))
 
 returns-3 : tie.Need-returns-3 Inv-loop μ-loop
-returns-3 c = number-false _ _ _ (digits-end _ _ _ (c .before .loop .inv) (omega arith))
+returns-3 c = nothing-read (digits-end _ _ _ (c .before .loop .inv) (omega arith))
 
 pub number-in-front-spec : {M : Type 1} → statement M
 number-in-front-spec =
