@@ -1,6 +1,7 @@
 -- Eight tests at once: an operation on a word that works on each byte apart, up to the first byte that fails.
 use mathlib.Core.Path.{_≡_, refl, sym, ap, ap₂, _∙_}
 use mathlib.Core.Bool.{Bool, true, false, cond, _&&_}
+use mathlib.Core.List.{_∷_, map}
 use Prim.Native.Nat.{ℕ, zero, suc, _+_, _*_, _/_, _%_, _^_, _<_, suc-le-suc, zero-le}
 use native.Mathlib.Omega.{arith}
 use native.Mathlib.Nat.{mod-lt, mod-one, pow-suc, one-le-pow, add-suc, add-zero, zero-add, suc-add, add-comm, div-one, mul-suc, le-trans, le-of-eq}
@@ -21,15 +22,15 @@ use Rattle.text.specs.Runs.{run}
 use Rattle.words.specs.Words.{lanes, bytesOf}
 use Rattle.words.specs.Tests.{copies, plus, noDigit, noCapital, highest}
 
--- F of n bytes gives f of the lowest byte; where that is below 128, the rest is F of the rest
-record Lanewise (F : ℕ → ℕ → ℕ) (f : ℕ → ℕ) : Type 0 where
+-- F of n bytes gives f of the lowest byte; where that is below m, the rest is F of the rest
+record Lanewise (m : ℕ) (F : ℕ → ℕ → ℕ) (f : ℕ → ℕ) : Type 0 where
   low : (n y : ℕ) → F (suc n) y % 256 ≡ f (y % 256)
-  high : (n y : ℕ) → y % 256 < 128 → F (suc n) y / 256 ≡ F n (y / 256)
+  high : (n y : ℕ) → y % 256 < m → F (suc n) y / 256 ≡ F n (y / 256)
 
-lanewise-word : Lanewise (λ n y. y) (λ b. b)
+lanewise-word : {m : ℕ} → Lanewise m (λ n y. y) (λ b. b)
 lanewise-word = record { low = λ n y. refl; high = λ n y h. refl }
 
-lanewise-copies : (c : ℕ) → c < 256 → Lanewise (λ n y. copies c n) (λ b. c)
+lanewise-copies : {m : ℕ} (c : ℕ) → c < 256 → Lanewise m (λ n y. copies c n) (λ b. c)
 lanewise-copies c h = record { low = λ n y. digits-mod (copies c n) h; high = λ n y _. digits-div (copies c n) h }
 
 byte-pos : 0 < 256
@@ -45,26 +46,26 @@ wrap-low n x = ap (λ (m : ℕ). m % 256) (wrap n x) ∙ digits-mod (x / 256 % 2
 pub wrap-high : (n x : ℕ) → x % 256 ^ suc n / 256 ≡ x / 256 % 256 ^ n
 wrap-high n x = ap (λ (m : ℕ). m / 256) (wrap n x) ∙ digits-div (x / 256 % 256 ^ n) (mod-lt x byte-pos)
 
-module _ {F G : ℕ → ℕ → ℕ} {f g : ℕ → ℕ} (a : Lanewise F f) (b : Lanewise G g) where
+module _ {m : ℕ} {F G : ℕ → ℕ → ℕ} {f g : ℕ → ℕ} (a : Lanewise m F f) (b : Lanewise m G g) where
   -- an operation on bits
   lanewise-bits : (op : ℕ → ℕ → ℕ) → ((x y k : ℕ) → op x y % 2 ^ k ≡ op (x % 2 ^ k) (y % 2 ^ k)) → ((x y k : ℕ) → op x y / 2 ^ k ≡ op (x / 2 ^ k) (y / 2 ^ k))
-      → Lanewise (λ n y. op (F n y) (G n y)) (λ b. op (f b) (g b))
+      → Lanewise m (λ n y. op (F n y) (G n y)) (λ b. op (f b) (g b))
   lanewise-bits op lows highs = record {
     low = λ n y. lows (F (suc n) y) (G (suc n) y) 8 ∙ ap₂ op (a .low n y) (b .low n y);
     high = λ n y h. highs (F (suc n) y) (G (suc n) y) 8 ∙ ap₂ op (a .high n y h) (b .high n y h);
   }
 
-  lanewise-and : Lanewise (λ n y. bitAnd (F n y) (G n y)) (λ b. bitAnd (f b) (g b))
+  lanewise-and : Lanewise m (λ n y. bitAnd (F n y) (G n y)) (λ b. bitAnd (f b) (g b))
   lanewise-and = lanewise-bits bitAnd and-mod and-shr
 
-  lanewise-or : Lanewise (λ n y. bitOr (F n y) (G n y)) (λ b. bitOr (f b) (g b))
+  lanewise-or : Lanewise m (λ n y. bitOr (F n y) (G n y)) (λ b. bitOr (f b) (g b))
   lanewise-or = lanewise-bits bitOr or-mod or-shr
 
-  lanewise-xor : Lanewise (λ n y. bitXor (F n y) (G n y)) (λ b. bitXor (f b) (g b))
+  lanewise-xor : Lanewise m (λ n y. bitXor (F n y) (G n y)) (λ b. bitXor (f b) (g b))
   lanewise-xor = lanewise-bits bitXor xor-mod xor-shr
 
-  -- a sum, where no byte below 128 makes one of 256 or more
-  lanewise-add : ((b : ℕ) → b < 128 → f b + g b < 256) → Lanewise (λ n y. (F n y + G n y) % 256 ^ n) (λ b. (f b + g b) % 256)
+  -- a sum, where no byte below m makes one of 256 or more
+  lanewise-add : ((b : ℕ) → b < m → f b + g b < 256) → Lanewise m (λ n y. (F n y + G n y) % 256 ^ n) (λ b. (f b + g b) % 256)
   lanewise-add room = record {
     low = λ n y.
         let x : ℕ = F (suc n) y + G (suc n) y in
@@ -78,6 +79,15 @@ module _ {F G : ℕ → ℕ → ℕ} {f g : ℕ → ℕ} (a : Lanewise F f) (b :
         let s : x / 256 ≡ F (suc n) y / 256 + G (suc n) y / 256 = omega arith in
         wrap-high n x ∙ ap (λ (m : ℕ). m % 256 ^ n) (s ∙ ap₂ (λ (p q : ℕ). p + q) (a .high n y h) (b .high n y h));
   }
+
+-- all n bytes apart
+lanes-each : {F : ℕ → ℕ → ℕ} {f : ℕ → ℕ} → Lanewise 256 F f → (n y : ℕ) → lanes 8 n (F n y) ≡ map f (lanes 8 n y)
+lanes-each wise zero y = refl
+lanes-each wise (suc n) y = ap₂ _∷_ (wise .low n y) (ap (lanes 8 n) (wise .high n y (mod-lt y byte-pos)) ∙ lanes-each wise n (y / 256))
+
+-- the low halves of n bytes
+pub nibbles : (n y : ℕ) → lanes 8 n (bitAnd y (copies 15 n)) ≡ map (λ b. bitAnd b 15) (lanes 8 n y)
+nibbles = lanes-each (lanewise-and lanewise-word (lanewise-copies 15 (omega arith)))
 
 -- ---- the zeros below the lowest set bit
 
@@ -107,7 +117,7 @@ trailing-high (suc j) k x h =
 
 -- ---- the first byte that fails the test
 
-module _ (F : ℕ → ℕ → ℕ) (f : ℕ → ℕ) (t : ℕ → Bool) (wise : Lanewise F f)
+module _ (F : ℕ → ℕ → ℕ) (f : ℕ → ℕ) (t : ℕ → Bool) (wise : Lanewise 128 F f)
     (sorted : everyBelow 256 (λ b. cond (t b) (eqb (f b) 0 && ltb b 128) (ltb 0 (f b))) ≡ true) where
   told : (b : ℕ) → b < 256 → cond (t b) (eqb (f b) 0 && ltb b 128) (ltb 0 (f b)) ≡ true
   told = everyBelow-at 256 (λ b. cond (t b) (eqb (f b) 0 && ltb b 128) (ltb 0 (f b))) sorted
@@ -137,20 +147,20 @@ module _ (F : ℕ → ℕ → ℕ) (f : ℕ → ℕ) (t : ℕ → Bool) (wise : 
 
 -- ---- digits, capital letters, zeros
 
-lanewise-plus : {F : ℕ → ℕ → ℕ} {f : ℕ → ℕ} (c : ℕ) → c < 256 → Lanewise F f → ((b : ℕ) → b < 128 → f b + c < 256) → Lanewise (λ n y. plus c n (F n y)) (λ b. (f b + c) % 256)
+lanewise-plus : {F : ℕ → ℕ → ℕ} {f : ℕ → ℕ} (c : ℕ) → c < 256 → Lanewise 128 F f → ((b : ℕ) → b < 128 → f b + c < 256) → Lanewise 128 (λ n y. plus c n (F n y)) (λ b. (f b + c) % 256)
 lanewise-plus c h a room = lanewise-add a (lanewise-copies c h) room
 
-lanewise-digit : Lanewise noDigit (λ b. bitOr b ((bitXor b 48 + 118) % 256))
+lanewise-digit : Lanewise 128 noDigit (λ b. bitOr b ((bitXor b 48 + 118) % 256))
 unfolding noDigit
 lanewise-digit = lanewise-or lanewise-word (lanewise-plus 118 (omega arith) (lanewise-xor lanewise-word (lanewise-copies 48 (omega arith))) (λ b h. omega (arith, xor-lt 7 b 48 h (omega arith))))
 
-lanewise-capital : Lanewise noCapital (λ b. bitOr (bitOr b ((bitXor b 64 + 101) % 256)) (bitXor ((bitXor b 64 + 127) % 256) 128))
+lanewise-capital : Lanewise 128 noCapital (λ b. bitOr (bitOr b ((bitXor b 64 + 101) % 256)) (bitXor ((bitXor b 64 + 127) % 256) 128))
 unfolding noCapital
 lanewise-capital =
     let letter = lanewise-xor lanewise-word (lanewise-copies 64 (omega arith)) in
     lanewise-or (lanewise-or lanewise-word (lanewise-plus 101 (omega arith) letter (λ b h. omega (arith, xor-lt 7 b 64 h (omega arith))))) (lanewise-xor (lanewise-plus 127 (omega arith) letter (λ b h. omega (arith, xor-lt 7 b 64 h (omega arith)))) (lanewise-copies 128 (omega arith)))
 
-lanewise-highest : {F : ℕ → ℕ → ℕ} {f : ℕ → ℕ} → Lanewise F f → Lanewise (λ n y. highest n (F n y)) (λ b. bitAnd (f b) 128)
+lanewise-highest : {F : ℕ → ℕ → ℕ} {f : ℕ → ℕ} → Lanewise 128 F f → Lanewise 128 (λ n y. highest n (F n y)) (λ b. bitAnd (f b) 128)
 lanewise-highest a = lanewise-and a (lanewise-copies 128 (omega arith))
 
 pub digits-counted : (y : ℕ) → trailingZeros 64 (highest 8 (noDigit 8 y)) / 8 ≡ run isDigit (bytesOf y)

@@ -6,6 +6,7 @@ use Prim.Native.Nat.{ℕ, zero, suc, _+_, _-_, _*_, _/_, _%_, _^_, _≤_, _<_}
 use native.Mathlib.Omega.{arith}
 use native.Mathlib.Nat.{pow-zero, pow-suc, pow-le-pow-right, lt-of-lt-of-le, zero-add, suc-add, mul-one, mul-assoc, mul-suc}
 use lib.Pow.{pow-add}
+use lib.Bits.{bitAnd, and-mask}
 use lib.Arith.{digits-div, digits-mod, digits-lt}
 use lib.ListN.{length, getD, take, drop, drop-of-length-le}
 use lib.Seq.{drop-cons, getD-take, take-take}
@@ -83,16 +84,16 @@ run-long t s h = rw (le-leb 8 (length s) h)
 
 -- ---- the value of digits
 
-value-zeros : (k : ℕ) (ds : List ℕ) → inBase 10 0 (map (λ b. b % 16) (zeros k ++ ds)) ≡ inBase 10 0 (map (λ b. b % 16) ds)
+value-zeros : (k : ℕ) (ds : List ℕ) → inBase 10 0 (map (λ b. bitAnd b 15) (zeros k ++ ds)) ≡ inBase 10 0 (map (λ b. bitAnd b 15) ds)
 value-zeros zero ds = refl
 value-zeros (suc k) ds = value-zeros k ds
 
-value-digits : (n : ℕ) (ds : List ℕ) → every isDigit ds ≡ true → inBase 10 n (map (λ b. b % 16) ds) ≡ valueFrom n ds
+value-digits : (n : ℕ) (ds : List ℕ) → every isDigit ds ≡ true → inBase 10 n (map (λ b. bitAnd b 15) ds) ≡ valueFrom n ds
 value-digits n [] h = refl
 value-digits n (c ∷ cs) h =
     let b = digit-bounds c (and-left (isDigit c) (every isDigit cs) h) in
-    let e : n * 10 + c % 16 ≡ 10 * n + (c - 48) = omega (arith, b) in
-    ap (λ (m : ℕ). inBase 10 m (map (λ b. b % 16) cs)) e ∙ (value-digits (10 * n + (c - 48)) cs (and-right (isDigit c) (every isDigit cs) h))
+    let e : n * 10 + bitAnd c 15 ≡ 10 * n + (c - 48) = omega (arith, b, and-mask c 4) in
+    ap (λ (m : ℕ). inBase 10 m (map (λ b. bitAnd b 15) cs)) e ∙ (value-digits (10 * n + (c - 48)) cs (and-right (isDigit c) (every isDigit cs) h))
 
 pow-bytes : (k : ℕ) → 2 ^ (8 * k) ≡ 256 ^ k
 pow-bytes zero = refl
@@ -100,7 +101,7 @@ pow-bytes (suc k) = ap (λ (x : ℕ). 2 ^ x) (mul-suc 8 k) ∙ pow-add 2 (8 * k)
 
 -- so many digits in front, moved to the highest bytes of a word
 pub value-in-front : (s : List ℕ) (n word : ℕ) → bytesOf word ≡ take 8 s → n ≡ run isDigit (take 8 s)
-    → inBase 10 0 (map (λ b. b % 16) (bytesOf (word * 2 ^ (64 - 8 * n) % 2 ^ 64))) ≡ value (take n s)
+    → inBase 10 0 (map (λ b. bitAnd b 15) (bytesOf (word * 2 ^ (64 - 8 * n) % 2 ^ 64))) ≡ value (take n s)
 unfolding bytesOf
 value-in-front s n word w e =
     let m : n ≤ 8 = omega (arith, first-few isDigit 8 s) in
@@ -112,4 +113,4 @@ value-in-front s n word w e =
     lanes-mod 8 (word * 2 ^ (64 - 8 * n)) ∙ ap₂ (λ (x y : ℕ). lanes 8 x (word * y)) v (ap (λ (x : ℕ). 2 ^ x) u ∙ pow-bytes (8 - n))
     ∙ lanes-shift (8 - n) n word
     ∙ ap (λ (xs : List ℕ). zeros (8 - n) ++ xs) (sym (lanes-take n 8 word m) ∙ ap (take n) w ∙ take-take n 8 s m) in
-    ap (λ (xs : List ℕ). inBase 10 0 (map (λ b. b % 16) xs)) f ∙ value-zeros (8 - n) (take n s) ∙ value-digits 0 (take n s) d
+    ap (λ (xs : List ℕ). inBase 10 0 (map (λ b. bitAnd b 15) xs)) f ∙ value-zeros (8 - n) (take n s) ∙ value-digits 0 (take n s) d

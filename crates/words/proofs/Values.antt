@@ -7,13 +7,14 @@ use native.Mathlib.Omega.{arith}
 use native.Mathlib.Nat.{mod-lt, mod-eq-of-lt, add-mul, mul-assoc, mul-comm, pow-suc, pow-zero, zero-mul, lt-of-lt-of-le, le-add-right, mul-le-mul-right, add-le-add}
 use lib.Arith.{digits-div, digits-mod, digits-lt}
 use lib.Pow.{pow-pos, pow-mono, split, shr-shr, mod-mod-pow, ones-lt}
-use lib.Bits.{bitAnd, and-mod, and-shr, and-block, and-mask, and-zero-r}
+use lib.Bits.{bitAnd, and-block, and-mask, and-zero-r, and-le-r}
 use lib.Dec.{leb}
 use borrow.Author.Tests.{leb-true, le-leb}
 use Rattle.scan.specs.Scan.{every}
 use Rattle.scan.proofs.Scan.{and-left, and-right, and-both}
 use Rattle.words.specs.Words.{lanes, bytesOf, inBase}
 use Rattle.words.specs.Tests.{copies}
+use Rattle.words.proofs.Lanes.{nibbles}
 
 -- the low half of each of m pairs of lanes
 abbrev pub evens : ℕ → ℕ → ℕ
@@ -96,19 +97,9 @@ joined-value k c (suc m) y n =
     let e : n * (c * c) + (a * c + b) ≡ (n * c + a) * c + b = omega (arith, add-mul (n * c) a c, mul-assoc n c c) in
     ap (λ (x : ℕ). inBase (c * c) x (joined c (lanes k (twice m) (y / 2 ^ k / 2 ^ k)))) e ∙ joined-value k c m (y / 2 ^ k / 2 ^ k) ((n * c + a) * c + b)
 
--- the low halves of n bytes
-nibbles : (n y : ℕ) → lanes 8 n (bitAnd y (copies 15 n)) ≡ map (λ b. b % 16) (lanes 8 n y)
-nibbles zero y = refl
-nibbles (suc n) y =
-    let e : bitAnd y (copies 15 (suc n)) % 256 ≡ y % 256 % 16 =
-    and-mod y (copies 15 (suc n)) 8 ∙ ap (bitAnd (y % 256)) (digits-mod (copies 15 n) (omega arith)) ∙ and-mask (y % 256) 4 in
-    let f : bitAnd y (copies 15 (suc n)) / 256 ≡ bitAnd (y / 256) (copies 15 n) =
-    and-shr y (copies 15 (suc n)) 8 ∙ ap (bitAnd (y / 256)) (digits-div (copies 15 n) (omega arith)) in
-    ap₂ _∷_ e (ap (lanes 8 n) f ∙ nibbles n (y / 256))
-
-nibbles-most : (n y : ℕ) → atMost 15 (map (λ b. b % 16) (lanes 8 n y)) ≡ true
+nibbles-most : (n y : ℕ) → atMost 15 (map (λ b. bitAnd b 15) (lanes 8 n y)) ≡ true
 nibbles-most zero y = refl
-nibbles-most (suc n) y = and-both _ _ (le-leb (y % 256 % 16) 15 (omega arith)) (nibbles-most n (y / 256))
+nibbles-most (suc n) y = and-both _ _ (le-leb (bitAnd (y % 256) 15) 15 (and-le-r (y % 256) 15)) (nibbles-most n (y / 256))
 
 -- ---- eight digits
 
@@ -143,7 +134,7 @@ module _ (y : ℕ) where
   pub eight-fit : eightOf < 2 ^ 64
   eight-fit = eight-joined .1
 
-  pub eight-value : eightOf ≡ inBase 10 0 (map (λ b. b % 16) (bytesOf y))
+  pub eight-value : eightOf ≡ inBase 10 0 (map (λ b. bitAnd b 15) (bytesOf y))
   unfolding bytesOf
   eight-value =
       let e : eightOf ≡ 0 * 100000000 + eightOf % 2 ^ 64 = omega (arith, mod-eq-of-lt eight-fit) in

@@ -1,7 +1,8 @@
 // The runs of digits, of zeros and of letters in front of a text, eight bytes at once.
 ghost use mathlib.Core.Path.{_≡_};
 ghost use mathlib.Core.List.{map};
-ghost use Prim.Native.Nat.{_≤_, _/_, _%_};
+ghost use Prim.Native.Nat.{_≤_, _/_};
+ghost use lib.Bits.{bitAnd};
 ghost use lib.Count.{trailingZeros};
 ghost use lib.ListN.{length, take};
 ghost use Rattle.text.specs.Ascii.{isCapitalOrDigit};
@@ -62,7 +63,7 @@ fn letters_in(word: u64) -> usize
 
 // The value of eight digits, where a byte 0 counts as the digit 0: neighbours are joined three times.
 fn value_in(word: u64) -> u64
-    ensures { λ r. ⌜ r ≡ inBase 10 0 (map (λ b. b % 16) (bytesOf word)) ⌝ }
+    ensures { λ r. ⌜ r ≡ inBase 10 0 (map (λ b. bitAnd b 15) (bytesOf word)) ⌝ }
 {
     let digits = word & 0x0f0f0f0f0f0f0f0f;
     let pairs = (digits & 0x00ff00ff00ff00ff) * 10 + ((digits >> 8) & 0x00ff00ff00ff00ff);
