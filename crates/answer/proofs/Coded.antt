@@ -6,7 +6,7 @@ use Prim.Native.Nat.{_<_}
 use native.Mathlib.Omega.{arith}
 use lib.Dec.{eqb}
 use Rattle.answer.specs.declared.Refusal.{Refusal}
-use Rattle.answer.specs.declared.Refusal.the-variants.{Line, Shape, Media, Books, Down, NoFile, Range, NoRoom, Cut, TripForm, TripOrder}
+use Rattle.answer.specs.declared.Refusal.the-variants.{Line, Shape, Media, Books, Down, NoFile, Range, NoRoom, Cut, TripForm, TripOrder, TripConflict, TripsTooLong}
 use Rattle.answer.specs.declared.Answer.{Answer}
 use Rattle.answer.specs.declared.Answer.the-variants.{Done, Refused}
 use Rattle.answer.specs.Coded.{Coded, coded, codedRefusal}
@@ -24,6 +24,8 @@ refusal-number NoRoom = refl
 refusal-number (Cut n) = refl
 refusal-number TripForm = refl
 refusal-number TripOrder = refl
+refusal-number TripConflict = refl
+refusal-number TripsTooLong = refl
 
 -- an answer's number has one digit, or it has two and the count is 0
 pub number-small : (a : Answer) → (coded a .number < 10) ⊎ ((coded a .number < 100) × (coded a .count ≡ 0))
@@ -42,6 +44,8 @@ number-small (Refused r) = go r
     go (Cut n) = inl (omega arith)
     go TripForm = inr (omega arith, refl)
     go TripOrder = inr (omega arith, refl)
+    go TripConflict = inr (omega arith, refl)
+    go TripsTooLong = inr (omega arith, refl)
 
 -- the answer with a number and a count
 decoded : Coded → Answer
@@ -56,7 +60,9 @@ decoded c =
     (cond (eqb (c .number) 7) (Refused Range)
     (cond (eqb (c .number) 8) (Refused NoRoom)
     (cond (eqb (c .number) 9) (Refused (Cut (c .count)))
-    (cond (eqb (c .number) 10) (Refused TripForm) (Refused TripOrder)))))))))))
+    (cond (eqb (c .number) 10) (Refused TripForm)
+    (cond (eqb (c .number) 11) (Refused TripOrder)
+    (cond (eqb (c .number) 17) (Refused TripConflict) (Refused TripsTooLong)))))))))))))
 
 decoded-refusal : (r : Refusal) → decoded (codedRefusal r) ≡ Refused r
 unfolding decoded
@@ -71,6 +77,8 @@ decoded-refusal NoRoom = refl
 decoded-refusal (Cut n) = refl
 decoded-refusal TripForm = refl
 decoded-refusal TripOrder = refl
+decoded-refusal TripConflict = refl
+decoded-refusal TripsTooLong = refl
 
 decoded-coded : (a : Answer) → decoded (coded a) ≡ a
 unfolding decoded

@@ -1,4 +1,4 @@
-// The answer of a call: done with a count, or refused for one of eleven reasons.
+// The answer of a call: done with a count, or refused for one of thirteen reasons.
 //
 // `coded` in specs/ gives each case its number and its count; every contract of the store speaks of answers through it.
 ghost use mathlib.Core.Path.{_≡_};
@@ -29,6 +29,10 @@ pub enum Refusal {
     TripForm,
     // The minutes of a trip list do not rise at a line.
     TripOrder,
+    // Two trip lists have a trip of the same minute, with other metres or another driver.
+    TripConflict,
+    // Two trip lists joined are longer than a list may be.
+    TripsTooLong,
 }
 
 pub enum Answer {
@@ -37,7 +41,7 @@ pub enum Answer {
     Refused(Refusal),
 }
 
-// The number of an answer: 0 where it is done, 1 to 11 for the refusals.
+// The number of an answer: 0 where it is done, 1 to 11, 17 and 18 for the refusals.
 pub fn number(a: Answer) -> u8
     ensures { λ r. ⌜ r ≡ (coded a) .number ⌝ }
 {
@@ -72,6 +76,8 @@ fn refusal_number(refusal: Refusal) -> u8
         Refusal::Cut(_) => 9,
         Refusal::TripForm => 10,
         Refusal::TripOrder => 11,
+        Refusal::TripConflict => 17,
+        Refusal::TripsTooLong => 18,
     }
 }
 
@@ -90,5 +96,7 @@ fn refusal_count(refusal: Refusal) -> usize
         Refusal::Cut(n) => n,
         Refusal::TripForm => 0,
         Refusal::TripOrder => 0,
+        Refusal::TripConflict => 0,
+        Refusal::TripsTooLong => 0,
     }
 }
