@@ -29,14 +29,14 @@ use Rattle.trip_list.specs.Lines.{hasLine, firstTrip, lineLength, driver
 use Rattle.trip_list.specs.Lookup.{located, given, inList, readTrip, lineTests, nextAnswer, nextTrip}
 use Rattle.trip_list.specs.declared.Step.{Step}
 use Rattle.trip_list.specs.declared.Step.the-variants.{At, Refused}
-use Rattle.trip_list.specs.Scanner.{LineAt, Stopped, Stepped, tripAt, spelledLine, Surveyed, Spelled}
+use Rattle.trip_list.specs.Scanner.{LineAt, Stopped, tripAt, spelledLine, Surveyed}
 use Rattle.trip_list.proofs.Lines.{minuteOf, metresOf, driverOf, texts, line-driver}
 use Rattle.trip_list.proofs.Claims.{never-longer}
 use Rattle.trip_list.proofs.Parsing.{Accepted, line-some, line-within, from-end, from-next, parsed-first, accepted-trips, list-parsed, list-range, list-count}
 use Rattle.trip_list.proofs.Spelling.{spell-shorter}
 use Rattle.trip_list.proofs.Stepping.{line-inside}
 
-refused-done : {A : Type 0} (r : Refusal) (n : ℕ) → codedRefusal r ≡ done n → A
+pub refused-done : {A : Type 0} (r : Refusal) (n : ℕ) → codedRefusal r ≡ done n → A
 refused-done r n e = absurd (false≢true (sym (refusal-number r) ∙ ap (λ (a : Coded). eqb (a .number) 0) e))
 
 -- ---- trips before those of the rest
@@ -87,6 +87,10 @@ pub walked-start : (list : List ℕ) → Walked list 0 0 0
 unfolding parse
 walked-start list = record { passed = []; so-far = refl; counted = refl; shorter = omega arith; starts = refl; within = omega arith; few = omega arith }
 
+pub start-passed : (list : List ℕ) → walked-start list .passed ≡ []
+unfolding walked-start
+start-passed list = refl
+
 module _ (list : List ℕ) (at least count : ℕ) (w : Walked list at least count) where
   module _ (inside : at < length list) (l : line.Line) (a : LineAt list at l) where
     abbrev s : List ℕ
@@ -123,9 +127,15 @@ module _ (list : List ℕ) (at least count : ℕ) (w : Walked list at least coun
           few = omega (arith, w .few, next-after);
         }
 
-    pub walked-on : spell (w .passed) ++ spelledLine list at ≡ spell (w .passed ++ (firstTrip s ∷ []))
+    -- its trip comes after those passed
+    pub next-passed : (rises : least ≤ l .minute) → walked-next rises .passed ≡ w .passed ++ (firstTrip s ∷ [])
+    unfolding walked-next
+    next-passed rises = refl
+
+    pub walked-on : (rises : least ≤ l .minute) → spell (w .passed) ++ spelledLine list at ≡ spell (walked-next rises .passed)
     unfolding spelledLine
-    walked-on = sym (spell-join (w .passed) (firstTrip s ∷ []) ∙ ap (λ (x : List ℕ). spell (w .passed) ++ x) (append-nil (spellTrip (firstTrip s))))
+    walked-on rises =
+        sym (ap spell (next-passed rises) ∙ spell-join (w .passed) (firstTrip s ∷ []) ∙ ap (λ (x : List ℕ). spell (w .passed) ++ x) (append-nil (spellTrip (firstTrip s))))
 
   -- a line is refused
   pub walked-bad : (a : Coded) → Stopped least (drop at list) a → parse list ≡ refusal a
@@ -143,47 +153,6 @@ module _ (list : List ℕ) (at least count : ℕ) (w : Walked list at least coun
 
     pub walked-answer : answerOf (parse list) ≡ done count
     walked-answer = ap answerOf walked-trips ∙ ap done (w .counted)
-
--- ---- spelled out
-
--- the lines before an index, in their one spelling, stand at the front of xs, up to `end`
-pub record Laid (list : List ℕ) (at least end : ℕ) (xs : List ℕ) : Type 0 where
-  pub count : ℕ
-  pub walked : Walked list at least count
-  pub ends : end ≡ length (spell (walked .passed))
-  pub laid : take end xs ≡ spell (walked .passed)
-
-pub laid-start : (list xs : List ℕ) → Laid list 0 0 0 xs
-unfolding walked-start
-laid-start list xs = record { count = 0; walked = walked-start list; ends = refl; laid = refl }
-
-module _ (list : List ℕ) (at least end : ℕ) (xs : List ℕ) (w : Laid list at least end xs) where
-  pub laid-shorter : end ≤ at
-  laid-shorter = omega (arith, w .ends, w .walked .shorter)
-
-  pub laid-next : at < length list → (l : line.Line) → LineAt list at l → least ≤ l .minute → (e : ℕ) (ys : List ℕ) → e ≡ end + length (spelledLine list at)
-      → take e ys ≡ take end xs ++ spelledLine list at → Laid list (at + l .length) (l .minute + 1) e ys
-  unfolding walked-next
-  laid-next inside l a rises e ys ee ey =
-      let on = walked-on list at least (w .count) (w .walked) inside l a in
-      let before = spell (w .walked .passed) in
-      record {
-        count = w .count + 1;
-        walked = walked-next list at least (w .count) (w .walked) inside l a rises;
-        ends = ee ∙ rw (w .ends) (sym (length-append before (spelledLine list at)) ∙ ap length on);
-        laid = ey ∙ rw (w .laid) on;
-      }
-
-  pub laid-end : length list ≤ at → Spelled list xs (done end)
-  laid-end over =
-      let all = walked-all list at least (w .count) (w .walked) over in
-      record {
-        told = ap done (w .ends ∙ ap length (sym all)) ∙ rw (walked-answer list at least (w .count) (w .walked) over);
-        laid = λ n q. let m : n ≡ end = ap (λ (a : Coded). a .count) (sym q) in rw m (w .laid ∙ sym all);
-      }
-
-  pub laid-bad : (r : Refusal) → Stopped least (drop at list) (codedRefusal r) → Spelled list xs (codedRefusal r)
-  laid-bad r b = record { told = rw (walked-bad list at least (w .count) (w .walked) (codedRefusal r) b, refusal-number r); laid = λ n q. refused-done r n q }
 
 -- ---- the trip at a place
 
@@ -249,15 +218,6 @@ module _ (list : List ℕ) (place n : ℕ) (e : listAnswer list ≡ done n) (acc
 pub read-refused : (list : List ℕ) (place : ℕ) (r : Refusal) → codedRefusal r ≡ listAnswer list → given (codedRefusal r) [] ≡ readTrip list place
 unfolding readTrip
 read-refused list place r e = rw (← e, refusal-number r)
-
--- ---- what a step says
-
-module _ (list : List ℕ) (at least : ℕ) (r : Step) (told : Stepped list at least r) where
-  pub step-line : (l : line.Line) → r ≡ At l → LineAt list at l × (least ≤ l .minute)
-  step-line l e = rw e at told
-
-  pub step-refused : (x : Refusal) → r ≡ Refused x → Stopped least (drop at list) (codedRefusal x)
-  step-refused x e = rw e at told
 
 -- ---- one pass over a list
 
@@ -352,7 +312,7 @@ module _ (list buffer : List ℕ) where
   write-shape n = rw (ne-eqb _ _ n) (refl, refl)
 
   module _ (h : length buffer ≡ greatestList) where
-    write-answer : (a : Coded) → a ≡ ifDone (listAnswer list) (done (length (spelling list))) (listAnswer list) → a ≡ writeAnswer list buffer
+    pub write-answer : (a : Coded) → a ≡ ifDone (listAnswer list) (done (length (spelling list))) (listAnswer list) → a ≡ writeAnswer list buffer
     unfolding writeAnswer
     write-answer a e = rw (eq-eqb _ _ h) e
 
@@ -361,25 +321,3 @@ module _ (list buffer : List ℕ) where
     write-long l =
         let a = write-answer RANGE (rw (← list-range list l)) in
         (a, rw (← a))
-
-    module _ (short : length list ≤ greatestList) (xs : List ℕ) (x : Answer) (p : Spelled list xs (coded x)) where
-      answered : (y : Answer) → x ≡ y → coded y ≡ writeAnswer list buffer
-      answered y e = write-answer (coded y) (sym (ap coded e) ∙ p .told ∙ rw (list-parsed list short))
-
-      pub write-refused : (r : Refusal) → x ≡ answers.Refused r → (codedRefusal r ≡ writeAnswer list buffer) × (buffer ≡ written list buffer)
-      unfolding written
-      write-refused r e = let a = answered (answers.Refused r) e in (a, rw (← a, refusal-number r))
-
-      module _ (n : ℕ) (e : x ≡ answers.Done n) where
-        spelled-count : n ≡ length (spelling list)
-        spelled-count =
-            cases (eqb (answerOf (parse list) .number) 0)
-            (λ z. let q : done n ≡ done (length (spelling list)) = sym (ap coded e) ∙ p .told ∙ rw z in ap (λ (a : Coded). a .count) q)
-            (λ z. let q : done n ≡ answerOf (parse list) = sym (ap coded e) ∙ p .told ∙ rw z in absurd (false≢true (sym z ∙ ap (λ (a : Coded). eqb (a .number) 0) (sym q))))
-
-        pub spelled-fits : n ≤ greatestList
-        spelled-fits = omega (arith, spelled-count, never-longer list)
-
-        pub write-done : (ys : List ℕ) → ys ≡ overwrite buffer 0 (take n xs) → (done n ≡ writeAnswer list buffer) × (ys ≡ written list buffer)
-        unfolding written
-        write-done ys ey = let a = answered (answers.Done n) e in (a, ey ∙ rw (← a, p .laid n (ap coded e)))

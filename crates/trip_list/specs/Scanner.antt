@@ -4,19 +4,16 @@ use mathlib.Core.Bool.{Bool, true, _&&_}
 use mathlib.Core.List.{List}
 use Prim.Native.Nat.{ℕ, _+_, _≤_, _<_}
 use lib.Dec.{eqb}
-use lib.ListN.{length, getD, take, drop}
+use lib.ListN.{length, getD, drop}
 use Rattle.answer.specs.Coded.{Coded, done, codedRefusal}
-use Rattle.answer.specs.Admission.{firstRefusal, ifDone}
-use Rattle.text.specs.Decimal.{isDigit, value, leadingZeros}
+use Rattle.answer.specs.Admission.{firstRefusal}
+use Rattle.text.specs.Decimal.{isDigit, value}
 use Rattle.text.specs.Marks.{LF, comma}
 use Rattle.text.specs.Runs.{run, front}
 use Rattle.trip_list.specs.declared.Trip as code
 use Rattle.trip_list.specs.declared.Line as line
-use Rattle.trip_list.specs.declared.Kept as kept
-use Rattle.trip_list.specs.declared.Step.{Step}
-use Rattle.trip_list.specs.declared.Step.the-variants.{At, Refused}
 use Rattle.trip_list.specs.Trip.{isDriverByte, isNumber, isDriver, field, spellTrip}
-use Rattle.trip_list.specs.List.{refusal, parseFrom, parse, answerOf, listAnswer, spelling}
+use Rattle.trip_list.specs.List.{refusal, parseFrom, listAnswer}
 use Rattle.trip_list.specs.Lines.{firstLine, hasLine, firstTrip, lineLength, driverStart, lineStart}
 use Rattle.trip_list.specs.Lookup.{lineTests}
 
@@ -69,11 +66,6 @@ pub record Stopped (least : ℕ) (s : List ℕ) (a : Coded) : Type 0 where
   pub told : (other : Coded) → firstRefusal (lineTests least s) other ≡ a
   pub parsed : parseFrom least s ≡ refusal a
 
--- the line at an index, or the refusal of what starts there
-abbrev pub Stepped : List ℕ → ℕ → ℕ → Step → Type 0
-Stepped list at least (At l) = LineAt list at l × (least ≤ l .minute)
-Stepped list at least (Refused r) = Stopped least (drop at list) (codedRefusal r)
-
 unfoldable pub tripAt : List ℕ → ℕ → code.Trip
 tripAt list at = record {
   minute = firstTrip (drop at list) .minute;
@@ -85,17 +77,7 @@ tripAt list at = record {
 unfoldable pub spelledLine : List ℕ → ℕ → List ℕ
 spelledLine list at = spellTrip (firstTrip (drop at list))
 
--- the digits that it keeps, of the minute and of the metres, begin after the leading zeros
-pub record KeptAt (list : List ℕ) (at : ℕ) (k : kept.Kept) : Type 0 where
-  pub first : k .first ≡ at + leadingZeros (field 0 (firstLine (drop at list)))
-  pub third : k .third ≡ at + (length (field 0 (firstLine (drop at list))) + 1) + leadingZeros (field 1 (firstLine (drop at list)))
-
 -- one pass over a list: its answer; where that is done, the trip at the place
 pub record Surveyed (list : List ℕ) (place : ℕ) (answer : Coded) (t : code.Trip) : Type 0 where
   pub told : answer ≡ listAnswer list
   pub found : (n : ℕ) → answer ≡ done n → place < n → t ≡ tripAt list (lineStart place list)
-
--- one pass that spells: the count of its bytes or the refusal; where it is done, the spelling stands at the front of xs
-pub record Spelled (list xs : List ℕ) (answer : Coded) : Type 0 where
-  pub told : answer ≡ ifDone (answerOf (parse list)) (done (length (spelling list))) (answerOf (parse list))
-  pub laid : (n : ℕ) → answer ≡ done n → take n xs ≡ spelling list

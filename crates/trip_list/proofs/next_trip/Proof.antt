@@ -2,8 +2,8 @@
 use native.Mathlib.Omega.{arith}
 use borrow.Author.Needs.{needs}
 use Rattle.trip_list.specs.Scanner.{LineAt}
-use Rattle.trip_list.proofs.Stepping.{line-inside}
-use Rattle.trip_list.proofs.Walking.{step-line, step-refused, next-range, next-end, next-bad, next-found}
+use Rattle.trip_list.proofs.Stepping.{step-line, step-refused, line-inside}
+use Rattle.trip_list.proofs.Walking.{next-range, next-end, next-bad, next-found}
 use Rattle.trip_list.proofs.next_trip.Statement.{statement}
 use Rattle.trip_list.proofs.next_trip.Tie as tie
 
@@ -40,7 +40,7 @@ returns-3 c =
 
 returns-4 : tie.Need-returns-4
 returns-4 c =
-    next-bad _ _ _ (omega arith) (omega arith) _ (step-refused _ _ _ (c .before .before .before .line-at .result) (c .before .before .before .line-at .ensures) _ (c .before .refusal .given .1))
+    next-bad _ _ _ (omega arith) (omega arith) _ (step-refused _ _ _ (c .before .before .before .line-at .result) (c .before .before .before .line-at .ensures) (omega arith) _ (c .before .refusal .given .1))
 
 pub next-trip-spec : {M : Type 1} → statement M
 next-trip-spec =

@@ -7,8 +7,8 @@ use Rattle.answer.specs.declared.Refusal.the-variants.{Range}
 use Rattle.trip_list.specs.List.{greatestList}
 use Rattle.trip_list.specs.Scanner.{LineAt}
 use Rattle.trip_list.proofs.Parsing.{list-range}
-use Rattle.trip_list.proofs.Stepping.{line-inside, minute-fits}
-use Rattle.trip_list.proofs.Walking.{Walked, walked-start, walked-next, next-after, Held, held-next, step-line, step-refused, survey-refused, survey-bad, survey-done}
+use Rattle.trip_list.proofs.Stepping.{step-line, step-refused, line-inside, minute-fits}
+use Rattle.trip_list.proofs.Walking.{Walked, walked-start, walked-next, next-after, Held, held-next, survey-refused, survey-bad, survey-done}
 use Rattle.trip_list.proofs.survey.Statement.{statement}
 use Rattle.trip_list.proofs.survey.Tie as tie
 
@@ -70,7 +70,7 @@ enum-known-refusal c = search needs
 returns-2 : tie.Need-returns-2 Inv-loop μ-loop
 returns-2 c =
     let l = c .before .before .before .before .before .loop in
-    survey-bad _ (l .inv .2) _ _ _ (l .inv .0) _ _ (c .before .refusal .given .0 .0) (step-refused _ _ _ (c .before .before .before .line-at .result) (c .before .before .before .line-at .ensures) _ (c .before .refusal .given .1))
+    survey-bad _ (l .inv .2) _ _ _ (l .inv .0) _ _ (c .before .refusal .given .0 .0) (step-refused _ _ _ (c .before .before .before .line-at .result) (c .before .before .before .line-at .ensures) (omega arith) _ (c .before .refusal .given .1))
 
 returns-3 : tie.Need-returns-3 Inv-loop μ-loop
 returns-3 c =

@@ -1,4 +1,4 @@
--- `trip_list::put_window` meets its contract: what was copied into the part is said of the whole.
+-- `trip_writer::put_window` meets its contract: what was copied into the part is said of the whole.
 use mathlib.Core.Path.{ap, _∙_}
 use Prim.Native.Nat.{_-_, _≤_}
 use native.Mathlib.Omega.{arith}
@@ -7,9 +7,9 @@ use lib.Seq.{take-take}
 use borrow.Author.Needs.{needs}
 use Rattle.memory.specs.Bytes.{part, overwrite}
 use Rattle.memory.proofs.Bytes.{length-part, put-copy}
 use Rattle.trip_list.specs.Scanner.{greatestLine}
-use Rattle.trip_list.proofs.put_window.Statement.{statement}
-use Rattle.trip_list.proofs.put_window.Tie as tie
+use Rattle.trip_writer.proofs.put_window.Statement.{statement}
+use Rattle.trip_writer.proofs.put_window.Tie as tie
 
 sub-copy-window : tie.Need-sub-copy-window
 sub-copy-window c = search needs

@@ -1,13 +1,14 @@
--- `trip_list::write` meets its contract: the list is spelled into an array, and from there copied to the buffer.
+-- `trip_writer::write` meets its contract: the list is spelled into an array, and from there copied to the buffer.
 use mathlib.Core.Path.{sym}
 use Prim.Native.Nat.{_≤_}
 use native.Mathlib.Omega.{arith}
 use lib.ListN.{length}
 use borrow.Author.Needs.{needs}
 use Rattle.memory.proofs.Bytes.{length-front}
-use Rattle.trip_list.proofs.Walking.{write-shape, write-long, write-refused, spelled-fits, write-done}
-use Rattle.trip_list.proofs.write.Statement.{statement}
-use Rattle.trip_list.proofs.write.Tie as tie
+use Rattle.trip_list.proofs.Walking.{write-shape, write-long}
+use Rattle.trip_writer.proofs.Writing.{write-refused, spelled-fits, write-done}
+use Rattle.trip_writer.proofs.write.Statement.{statement}
+use Rattle.trip_writer.proofs.write.Tie as tie
 
 returns : tie.Need-returns
 returns c = write-shape _ _ (c .if1 .taken)

@@ -1,4 +1,4 @@
--- `trip_list::copy_window` meets its contract: the array has the bytes that go on.
+-- `trip_writer::copy_window` meets its contract: the array has the bytes that go on.
 use mathlib.Core.Path.{ap, _∙_}
 use mathlib.Core.List.{List}
 use Prim.Native.Nat.{ℕ}
@@ -7,9 +7,9 @@ use lib.ListN.{take, length-replicate}
 use borrow.Author.Needs.{needs}
 use Rattle.memory.specs.Bytes.{zeros, overwrite}
 use Rattle.memory.proofs.Bytes.{length-front, take-copied}
 use Rattle.trip_list.specs.Scanner.{greatestLine}
-use Rattle.trip_list.proofs.copy_window.Statement.{statement}
-use Rattle.trip_list.proofs.copy_window.Tie as tie
+use Rattle.trip_writer.proofs.copy_window.Statement.{statement}
+use Rattle.trip_writer.proofs.copy_window.Tie as tie
 
 slice-aggregate-copy-window-bytes : tie.Need-slice-aggregate-copy-window-bytes
 slice-aggregate-copy-window-bytes c = search needs

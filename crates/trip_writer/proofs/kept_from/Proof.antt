@@ -1,12 +1,13 @@
--- `trip_list::kept_from` meets its contract: the zeros are counted from where each number begins.
+-- `trip_writer::kept_from` meets its contract: the zeros are counted from where each number begins.
 use Prim.Native.Nat.{_+_, _≤_, _<_}
 use native.Mathlib.Omega.{arith}
 use lib.ListN.{length}
 use borrow.Author.Needs.{needs}
 use Rattle.memory.proofs.Bytes.{rest-whole}
-use Rattle.trip_list.proofs.Stepping.{line-inside, fields-inside, minute-counts, metres-counts, kept-found}
-use Rattle.trip_list.proofs.kept_from.Statement.{statement}
-use Rattle.trip_list.proofs.kept_from.Tie as tie
+use Rattle.trip_list.proofs.Stepping.{line-inside}
+use Rattle.trip_writer.proofs.Pieces.{fields-inside, minute-counts, metres-counts, kept-found}
+use Rattle.trip_writer.proofs.kept_from.Statement.{statement}
+use Rattle.trip_writer.proofs.kept_from.Tie as tie
 
 -- the numbers lie within the list
 inside : (c : tie.Start) → (1 ≤ c .args .line .second) × (c .args .line .second < c .args .line .driver) × (c .args .line .driver ≤ c .args .line .length)

@@ -1,17 +1,18 @@
--- `trip_list::spell_lines` meets its contract: the lines before index `at` are spelled out, up to `end`.
+-- `trip_writer::spell_lines` meets its contract: the lines before index `at` are spelled out, up to `end`.
 use mathlib.Core.Path.{_≡_, refl}
-use Prim.Native.Nat.{_-_, _≤_}
+use Prim.Native.Nat.{_+_, _-_, _*_, _≤_}
 use native.Mathlib.Omega.{arith}
 use lib.ListN.{length}
 use borrow.Author.Needs.{needs}
-use Rattle.trip_list.specs.Scanner.{LineAt}
-use Rattle.trip_list.proofs.Stepping.{line-inside, minute-fits}
-use Rattle.trip_list.proofs.Walking.{next-after, Laid, laid-start, laid-shorter, laid-next, laid-end, laid-bad, step-line, step-refused}
-use Rattle.trip_list.proofs.spell_lines.Statement.{statement}
-use Rattle.trip_list.proofs.spell_lines.Tie as tie
+use Rattle.trip_list.specs.Scanner.{greatestLine, LineAt}
+use Rattle.trip_list.proofs.Stepping.{step-line, step-refused, line-inside, minute-fits}
+use Rattle.trip_list.proofs.Walking.{next-after}
+use Rattle.trip_writer.proofs.Writing.{Laid, laid-start, laid-shorter, laid-next, laid-end, laid-bad}
+use Rattle.trip_writer.proofs.spell_lines.Statement.{statement}
+use Rattle.trip_writer.proofs.spell_lines.Tie as tie
 
 abbrev Inv-loop : tie.InvT-loop
-Inv-loop list output₀ at₀ least₀ end₀ output at least end = Laid list at least end output × (length output ≡ length output₀) × (length list ≤ length output₀)
+Inv-loop list output₀ at₀ least₀ end₀ output at least end = Laid list at least end output × (length output ≡ length output₀) × (length list + 2 * greatestLine ≤ length output₀)
 
 abbrev μ-loop : tie.MeasureT-loop
 μ-loop list output₀ at₀ least₀ end₀ output at least end = length list - at
@@ -33,7 +34,7 @@ put-line-requires : tie.Need-put-line-requires Inv-loop μ-loop
 put-line-requires c κs =
     let k = c .before in
     let l = k .before .before .before .before .before .loop in
-    (found k .0, laid-shorter _ _ _ _ _ (l .inv .0), omega (arith, l .inv))
+    (found k .0, omega (arith, l .inv .1, l .inv .2, laid-shorter _ _ _ _ _ (l .inv .0)))
 
 add-at : tie.Need-add-at Inv-loop μ-loop
 add-at c = omega (arith, line-inside _ _ _ (found (c .before .before .before .before .before) .0))
@@ -65,7 +66,7 @@ same-length c = search needs
 returns : tie.Need-returns Inv-loop μ-loop
 returns c =
     let l = c .before .before .before .before .before .loop in
-    laid-bad _ _ _ _ _ (l .inv .0) (c .before .refusal .given .0 .0) (step-refused _ _ _ (c .before .before .before .line-at .result) (c .before .before .before .line-at .ensures) _ (c .before .refusal .given .1))
+    laid-bad _ _ _ _ _ (l .inv .0) (c .before .refusal .given .0 .0) (step-refused _ _ _ (c .before .before .before .line-at .result) (c .before .before .before .line-at .ensures) (omega arith) _ (c .before .refusal .given .1))
 
 same-length-2 : tie.Need-same-length-2 Inv-loop μ-loop
 same-length-2 c = search needs

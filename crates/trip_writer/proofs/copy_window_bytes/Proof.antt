@@ -1,4 +1,4 @@
--- `trip_list::copy_window_bytes` meets its contract: after i turns the first i bytes of `src` are laid over the front.
+-- `trip_writer::copy_window_bytes` meets its contract: after i turns the first i bytes of `src` are laid over the front.
 use mathlib.Core.Path.{_≡_, sym, _∙_, ap}
 use mathlib.Core.List.{List}
 use Prim.Native.Nat.{ℕ, _≤_, _-_}
@@ -7,9 +7,9 @@ use lib.ListN.{length, take, set, getD, length-set}
 use borrow.Author.Needs.{needs}
 use Rattle.memory.specs.Bytes.{overwrite}
 use Rattle.memory.proofs.Bytes.{overwrite-none, overwrite-next}
 use Rattle.trip_list.specs.Scanner.{greatestLine}
-use Rattle.trip_list.proofs.copy_window_bytes.Statement.{statement}
-use Rattle.trip_list.proofs.copy_window_bytes.Tie as tie
+use Rattle.trip_writer.proofs.copy_window_bytes.Statement.{statement}
+use Rattle.trip_writer.proofs.copy_window_bytes.Tie as tie
 
 abbrev Inv-loop : tie.InvT-loop
 Inv-loop dst₀ src i₀ dst i = (dst ≡ overwrite dst₀ 0 (take i src)) × (length dst ≡ length dst₀) × (i ≤ greatestLine)

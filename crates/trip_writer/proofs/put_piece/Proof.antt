@@ -1,11 +1,11 @@
--- `trip_list::put_piece` meets its contract: what was copied into the part is said of the whole.
+-- `trip_writer::put_piece` meets its contract: what was copied into the part is said of the whole.
 use Prim.Native.Nat.{_-_}
 use native.Mathlib.Omega.{arith}
 use lib.ListN.{length}
 use borrow.Author.Needs.{needs}
 use Rattle.memory.proofs.Bytes.{length-part, put-copy}
-use Rattle.trip_list.proofs.put_piece.Statement.{statement}
-use Rattle.trip_list.proofs.put_piece.Tie as tie
+use Rattle.trip_writer.proofs.put_piece.Statement.{statement}
+use Rattle.trip_writer.proofs.put_piece.Tie as tie
 
 sub-copy : tie.Need-sub-copy
 sub-copy c = search needs

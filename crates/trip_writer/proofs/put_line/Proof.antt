@@ -1,23 +1,24 @@
--- `trip_list::put_line` meets its contract: a piece of the line is laid down, and the other after it.
+-- `trip_writer::put_line` meets its contract: a piece of the line is laid down, and the other after it.
 use mathlib.Core.Logic.{⊎-elim}
 use mathlib.Core.Path.{ap}
-use Prim.Native.Nat.{_+_, _-_, _≤_}
+use Prim.Native.Nat.{_+_, _-_, _*_, _≤_}
 use native.Mathlib.Omega.{arith}
 use lib.ListN.{length}
 use borrow.Author.Needs.{needs}
 use Rattle.trip_list.specs.Scanner.{greatestLine}
-use Rattle.trip_list.proofs.Stepping.{first-second, second-third, third-end, line-inside, length-fits, spelled-length, put-pieces}
-use Rattle.trip_list.proofs.put_line.Statement.{statement}
-use Rattle.trip_list.proofs.put_line.Tie as tie
+use Rattle.trip_list.proofs.Stepping.{line-inside, length-fits}
+use Rattle.trip_writer.proofs.Pieces.{first-second, second-third, third-end, spelled-length, put-pieces}
+use Rattle.trip_writer.proofs.put_line.Statement.{statement}
+use Rattle.trip_writer.proofs.put_line.Tie as tie
 
 -- the pieces stand in order, within the list, and there is room for them
 order : (c : tie.After-kept-from) → let a = c .before .before .before .args in let r = c .kept-from .result in
     (r .first ≤ a .at + a .line .second) × (a .at + a .line .second ≤ r .third) × (r .third ≤ a .at + a .line .length)
-    × (a .at + a .line .length ≤ length (a .list .now)) × (a .line .length ≤ greatestLine) × (a .end ≤ a .at) × (length (a .list .now) ≤ length (a .output .now))
+    × (a .at + a .line .length ≤ length (a .list .now)) × (a .line .length ≤ greatestLine) × (a .end + 2 * greatestLine ≤ length (a .output .now))
 order c =
     let p = c .before .before .before .pre in
     let z = c .kept-from .ensures in
-    (first-second _ _ _ (p .0) _ z, second-third _ _ _ (p .0) _ z, third-end _ _ _ (p .0) _ z, line-inside _ _ _ (p .0), length-fits _ _ _ (p .0), p .1, p .2)
+    (first-second _ _ _ (p .0) _ z, second-third _ _ _ (p .0) _ z, third-end _ _ _ (p .0) _ z, line-inside _ _ _ (p .0), length-fits _ _ _ (p .0), p .1)
 
 kept-from-requires : tie.Need-kept-from-requires
 kept-from-requires c κs = search needs
@@ -67,10 +68,10 @@ returns c =
     let z = f .kept-from .result in
     let e = f .kept-from .ensures in
     let o = order f in
-    let pieces = put-pieces (a .list .now) (a .at) (a .line) (k .pre .0) z e (a .output .now) (a .end) (k .pre .1) (k .pre .2) in (
+    let pieces = put-pieces (a .list .now) (a .at) (a .line) (k .pre .0) z e (a .output .now) (a .end) (k .pre .1) (length-fits _ _ _ (k .pre .0)) in (
       omega (arith, o, spelled-length _ _ _ (k .pre .0) _ e),
-      ⊎-elim (λ w. pieces _ (c .if1 .output) greatestLine greatestLine (omega (arith, o)) (omega (arith, o, w .0)) (omega (arith, o)) (omega (arith, o, w .0)) (w .2 .ensures) (rw (w .9) (w .6 .ensures)))
-          (λ w. pieces _ (c .if1 .output) (a .at + a .line .second - z .first) (a .at + a .line .length - z .third) (omega (arith, o)) (omega (arith, o)) (omega (arith, o)) (omega (arith, o))
+      ⊎-elim (λ w. pieces _ (c .if1 .output) greatestLine greatestLine (omega (arith, o)) (omega (arith, o, w .0)) (omega arith) (omega (arith, o)) (omega (arith, o, w .0)) (omega arith) (w .2 .ensures) (rw (w .9) (w .6 .ensures)))
+          (λ w. pieces _ (c .if1 .output) (a .at + a .line .second - z .first) (a .at + a .line .length - z .third) (omega (arith, o)) (omega (arith, o)) (omega (arith, o)) (omega (arith, o)) (omega (arith, o)) (omega (arith, o))
           (w .2 .ensures) (rw (w .9) (w .6 .ensures)))
           (c .if1 .came),
     )

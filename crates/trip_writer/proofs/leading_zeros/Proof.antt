@@ -1,4 +1,4 @@
--- `trip_list::leading_zeros` meets its contract: i zeros are counted.
+-- `trip_writer::leading_zeros` meets its contract: i zeros are counted.
 use mathlib.Core.Path.{sym, _∙_}
 use Prim.Native.Nat.{_≤_, _-_}
 use native.Mathlib.Omega.{arith}
@@ -7,9 +7,9 @@ use lib.Seq.{getD-take}
 use borrow.Author.Needs.{needs}
 use Rattle.memory.proofs.Bytes.{length-front}
 use Rattle.text.proofs.Decimal.{ZerosTo, zeros-none, zeros-next, zeros-stop, zeros-end}
 use Rattle.trip_list.proofs.Runs.{zeros-first}
-use Rattle.trip_list.proofs.leading_zeros.Statement.{statement}
-use Rattle.trip_list.proofs.leading_zeros.Tie as tie
+use Rattle.trip_writer.proofs.leading_zeros.Statement.{statement}
+use Rattle.trip_writer.proofs.leading_zeros.Tie as tie
 
 abbrev Inv-loop : tie.InvT-loop
 Inv-loop text digits i₀ i = ZerosTo (take digits text) i × (i ≤ digits) × (digits ≤ length text)

@@ -1,0 +1,22 @@
+-- What the parts of the writer leave.
+use mathlib.Core.Path.{_≡_}
+use mathlib.Core.List.{List}
+use Prim.Native.Nat.{ℕ, _+_}
+use lib.ListN.{length, take, drop}
+use Rattle.answer.specs.Coded.{Coded, done}
+use Rattle.answer.specs.Admission.{ifDone}
+use Rattle.text.specs.Decimal.{leadingZeros}
+use Rattle.trip_list.specs.Trip.{field}
+use Rattle.trip_list.specs.List.{parse, answerOf, spelling}
+use Rattle.trip_list.specs.Lines.{firstLine}
+use Rattle.trip_writer.specs.declared.Kept as kept
+
+-- the digits that a line's spelling keeps, of the minute and of the metres, begin after the leading zeros
+pub record KeptAt (list : List ℕ) (at : ℕ) (k : kept.Kept) : Type 0 where
+  pub first : k .first ≡ at + leadingZeros (field 0 (firstLine (drop at list)))
+  pub third : k .third ≡ at + (length (field 0 (firstLine (drop at list))) + 1) + leadingZeros (field 1 (firstLine (drop at list)))
+
+-- one pass that spells: the count of its bytes or the refusal; where it is done, the spelling stands at the front of xs
+pub record Spelled (list xs : List ℕ) (answer : Coded) : Type 0 where
+  pub told : answer ≡ ifDone (answerOf (parse list)) (done (length (spelling list))) (answerOf (parse list))
+  pub laid : (n : ℕ) → answer ≡ done n → take n xs ≡ spelling list
