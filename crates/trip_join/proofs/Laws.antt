@@ -57,19 +57,22 @@ insert-same t u us q =
     let k : t .minute ≤ u .minute = omega arith in
     rw (le-ltb _ _ l, le-ltb _ _ k)
 
+pub insert-cases : (Q : List Trip → Type 0) (t u : Trip) (us : List Trip) → (t .minute < u .minute → Q (t ∷ u ∷ us)) → (u .minute < t .minute → Q (u ∷ insert t us))
+    → (t .minute ≡ u .minute → Q (t ∷ us)) → Q (insert t (u ∷ us))
+insert-cases Q t u us first after same =
+    split-lt (t .minute) (u .minute)
+    (λ h. rw (lt-ltb _ _ h) (first h))
+    (λ h. split-eq (t .minute) (u .minute)
+    (λ q. rw (insert-same t u us q) (same q))
+    (λ q. let l : u .minute < t .minute = omega arith in rw (insert-after t u us l) (after l)))
+
 insert-valid : (n : ℕ) (t : Trip) (us : List Trip) → n ≤ t .minute → inLimits t ≡ true → validFrom n us ≡ true → validFrom n (insert t us) ≡ true
 insert-valid n t [] h l e = valid-cons n t [] h l refl
 insert-valid n t (u ∷ us) h l e =
-    split-lt (t .minute) (u .minute)
-    (λ k.
-    let r = raised n (t .minute + 1) u us (omega arith) e in
-    rw (insert-first t (u ∷ us) r) (valid-cons n t (u ∷ us) h l r))
-    (λ k. split-eq (t .minute) (u .minute)
-    (λ q. rw (insert-same t u us q) (valid-cons n t us h l (rw q (later n u us e))))
-    (λ q.
-    let g : u .minute < t .minute = omega arith in
-    let i = insert-valid (u .minute + 1) t us (omega arith) l (later n u us e) in
-    rw (insert-after t u us g) (valid-cons n u (insert t us) (rising n u us e) (limited n u us e) i)))
+    insert-cases (λ ts. validFrom n ts ≡ true) t u us
+    (λ k. valid-cons n t (u ∷ us) h l (raised n (t .minute + 1) u us (omega arith) e))
+    (λ k. valid-cons n u (insert t us) (rising n u us e) (limited n u us e) (insert-valid (u .minute + 1) t us (omega arith) l (later n u us e)))
+    (λ q. valid-cons n t us h l (rw q (later n u us e)))
 
 -- ---- the join
 
