@@ -290,5 +290,11 @@ agree-self xs e = all-agree xs xs (λ t u. one-minute 0 xs t u e)
 pub join-self : (xs : List Trip) → valid xs ≡ true → join xs xs ≡ xs
 join-self xs e = sym (only-join xs xs e e xs (record { order = e; first = λ t m. m; second = λ t m. m; others = λ t m. inl m }))
 
+pub agree-none : (xs : List Trip) → agree xs [] ≡ true
+agree-none xs = all-agree xs [] (λ t u m k. absurd (List·Memᴰ·not-nil k))
+
+pub none-agree : (xs : List Trip) → agree [] xs ≡ true
+none-agree xs = agree-commutes [] xs ∙ agree-none xs
+
 pub join-none : (xs : List Trip) → valid xs ≡ true → join xs [] ≡ xs
 join-none xs e = sym (only-join xs [] e refl xs (record { order = e; first = λ t m. m; second = λ t m. absurd (List·Memᴰ·not-nil m); others = λ t m. inl m }))
