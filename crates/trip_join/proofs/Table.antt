@@ -1,10 +1,10 @@
 -- Worked pairs of lists, computed.
 use mathlib.Core.Path.{_≡_, refl}
-use mathlib.Core.List.{List, [], _∷_, _++_, map}
+use mathlib.Core.List.{List, [], _∷_, map}
 use Prim.Native.Nat.{ℕ, zero, suc, _+_}
 use Prim.Native.String.{String}
 use lib.ListN.{length, take}
-use Rattle.answer.specs.Coded.{Coded, done, RANGE, TRIP-FORM, TRIP-ORDER, TRIP-CONFLICT, TRIPS-TOO-LONG}
+use Rattle.answer.specs.Coded.{Coded, done, TRIP-FORM, TRIP-ORDER, TRIP-CONFLICT, TRIPS-TOO-LONG}
 use Rattle.memory.specs.Bytes.{zeros}
 use Rattle.text.specs.Ascii.{ascii}
 use Rattle.text.specs.Decimal.{isNumeral, decimal}
@@ -58,3 +58,27 @@ rows-answered = refl
 pub rows-written : map (λ (r : Row). take (r .answer .count) (joined (r .first) (r .second) (zeros 4096))) rows ≡ map (λ (r : Row). r .text) rows
 unfolding joined joinAnswer listAnswer parse parseFrom hasForm tripOf isNumeral isDriver isDriverByte spellTrip decimal sameRest agreeing agree
 rows-written = refl
+
+-- ---- at the limit
+
+abbrev linesFrom : ℕ → ℕ → List Trip → List Trip
+linesFrom zero minute last = last
+linesFrom (suc n) minute last = trip minute 4294967295 (ascii "ABCDEFGHIJKLMNOP") ∷ linesFrom n (minute + 2) last
+
+-- lines of 39 bytes, at every other minute, and a last one with metres of one digit
+abbrev listOf : ℕ → ℕ → ℕ → String → List ℕ
+listOf lines minute last driver = spell (linesFrom lines minute (trip last 0 (ascii driver) ∷ []))
+
+-- a join of 4,096 bytes is done, and one of 4,097 refused
+pub limit-done : joinAnswer (listOf 52 1000000000 1000000200 "ABCDEF") (listOf 52 1000000001 1000000201 "ABCDEF") (zeros 4096) ≡ done 4096
+unfolding joinAnswer listAnswer parse parseFrom hasForm tripOf isNumeral isDriver isDriverByte spellTrip decimal sameRest agreeing agree
+limit-done = refl
+
+pub limit-passed : joinAnswer (listOf 52 1000000000 1000000200 "ABCDEF") (listOf 52 1000000001 1000000201 "ABCDEFG") (zeros 4096) ≡ TRIPS-TOO-LONG
+unfolding joinAnswer listAnswer parse parseFrom hasForm tripOf isNumeral isDriver isDriverByte spellTrip decimal sameRest agreeing agree
+limit-passed = refl
+
+-- a conflict in two lists of 80 such lines is refused as a conflict
+pub conflict-before-length : joinAnswer (listOf 80 1000000000 1000000200 "A") (listOf 80 1000000001 1000000200 "B") (zeros 4096) ≡ TRIP-CONFLICT
+unfolding joinAnswer listAnswer parse parseFrom hasForm tripOf isNumeral isDriver isDriverByte spellTrip decimal sameRest agreeing agree
+conflict-before-length = refl
