@@ -24,6 +24,9 @@ use Rattle.trip_join.proofs.Claims.{Conflict, disagree, conflict-disagr
 abbrev pub tripsIn : List ℕ → List Trip
 tripsIn list = tripsOf (parse list)
 
+done-of : (list : List ℕ) → listAnswer list .number ≡ 0 → listAnswer list ≡ done (listAnswer list .count)
+done-of list e = ap (λ (k : ℕ). record { number = k; count = listAnswer list .count }) e
+
 -- ---- the answer: six cases, in this order
 
 -- a buffer of 4,096 bytes, and two lists that are accepted
@@ -71,7 +74,7 @@ module _ (x y buffer : List ℕ) where
       unfolding joinAnswer
       join-done h = rw (eq-eqb _ _ (r .room), eq-eqb _ _ (r .first), eq-eqb _ _ (r .second), agree-of x y free, le-leb _ _ h)
 
--- each call is one of these
+-- which of these a call is
 pub data Case (x y buffer : List ℕ) : Type 0 where
   shape : length buffer ≢ 4096 → Case x y buffer
   first : length buffer ≡ 4096 → listAnswer x .number ≢ 0 → Case x y buffer
@@ -80,6 +83,7 @@ pub data Case (x y buffer : List ℕ) : Type 0 where
   long : Ready x y buffer → NoConflict x y → 4096 < length (joinedText x y) → Case x y buffer
   fits : Ready x y buffer → NoConflict x y → length (joinedText x y) ≤ 4096 → Case x y buffer
 
+-- every call is one of them
 pub every-join : (x y buffer : List ℕ) → Case x y buffer
 every-join x y buffer =
     split-eq (length buffer) 4096
@@ -123,7 +127,7 @@ joined-length x y buffer =
     (λ e. rw e (length-overwrite buffer 0 (joinedText x y)))
     (λ e. rw e)
 
--- what a done answer shows
+-- what a done answer shows: the last of the six
 pub record DoneJoin (x y buffer : List ℕ) (n : ℕ) : Type 0 where
   pub ready : Ready x y buffer
   pub free : NoConflict x y
@@ -187,16 +191,24 @@ module _ (x y buffer : List ℕ) (n : ℕ) (e : joinAnswer x y buffer ≡ done n
   pub output-join : IsJoin (tripsIn x) (tripsIn y) (tripsIn (take n (joined x y buffer)))
   output-join = rw output-trips trips-joined
 
-  -- and no other bytes that are their own spelling have them
+  -- so it has each trip of either list
+  pub has-each : (t : Trip) → List·Memᴰ t (tripsIn x) ⊎ List·Memᴰ t (tripsIn y) → List·Memᴰ t (tripsIn (take n (joined x y buffer)))
+  has-each t m = ⊎-elim (output-join .first t) (output-join .second t) m
+
+  -- and no others
+  pub has-no-other : (t : Trip) → List·Memᴰ t (tripsIn (take n (joined x y buffer))) → List·Memᴰ t (tripsIn x) ⊎ List·Memᴰ t (tripsIn y)
+  has-no-other = output-join .others
+
+  -- no other bytes that are their own spelling have these trips
   pub output-only : (z : List ℕ) → spelling z ≡ z → IsJoin (tripsIn x) (tripsIn y) (tripsIn z) → z ≡ take n (joined x y buffer)
   output-only z q j =
       sym q ∙ ap spell (only-join (tripsIn x) (tripsIn y) (trips-valid x) (trips-valid y) (tripsIn z) j) ∙ sym done-front
 
-  pub has-each : (t : Trip) → List·Memᴰ t (tripsIn x) ⊎ List·Memᴰ t (tripsIn y) → List·Memᴰ t (tripsIn (take n (joined x y buffer)))
-  has-each t m = ⊎-elim (output-join .first t) (output-join .second t) m
-
-  pub has-no-other : (t : Trip) → List·Memᴰ t (tripsIn (take n (joined x y buffer))) → List·Memᴰ t (tripsIn x) ⊎ List·Memᴰ t (tripsIn y)
-  has-no-other = output-join .others
+-- where the text is too long, no accepted list has these trips
+pub long-none : (x y z : List ℕ) → 4096 < length (joinedText x y) → IsJoin (tripsIn x) (tripsIn y) (tripsIn z) → listAnswer z .number ≢ 0
+long-none x y z h j e =
+    let q = ap (λ (ts : List Trip). length (spell ts)) (only-join (tripsIn x) (tripsIn y) (trips-valid x) (trips-valid y) (tripsIn z) j) in
+    absurd (omega (arith, q, never-longer z, accepted-short z (listAnswer z .count) (done-of z e)))
 
 -- ---- calls that give the same
 
@@ -205,9 +217,6 @@ pub trips-decide : (x y z w buffer : List ℕ) → listAnswer x .number ≡ 0 �
     → tripsIn x ≡ tripsIn z → tripsIn y ≡ tripsIn w → (joinAnswer x y buffer ≡ joinAnswer z w buffer) × (joined x y buffer ≡ joined z w buffer)
 unfolding joinAnswer joined
 trips-decide x y z w buffer ex ey ez ew q p = rw (eq-eqb _ _ ex, eq-eqb _ _ ey, eq-eqb _ _ ez, eq-eqb _ _ ew, q, p) (refl, refl)
-
-done-of : (list : List ℕ) → listAnswer list .number ≡ 0 → listAnswer list ≡ done (listAnswer list .count)
-done-of list e = ap (λ (k : ℕ). record { number = k; count = listAnswer list .count }) e
 
 again : (list : List ℕ) → listAnswer list .number ≡ 0 → listAnswer (spelling list) .number ≡ 0
 again list e = ap (λ (c : Coded). c .number) (accepted-again list (listAnswer list .count) (done-of list e))
@@ -227,7 +236,7 @@ module _ (x y buffer : List ℕ) (ex : listAnswer x .number ≡ 0) (ey : listAns
       (λ e. rw (eq-eqb _ _ ex, eq-eqb _ _ ey, e, sym turn ∙ e, join-commutes (tripsIn x) (tripsIn y) (trips-valid x) (trips-valid y) e) (refl, refl))
       (λ e. cases (eqb (length buffer) greatestList) (λ h. rw (h, eq-eqb _ _ ex, eq-eqb _ _ ey, e, sym turn ∙ e) (refl, refl)) (λ h. rw h (refl, refl)))
 
--- ---- a list joined with itself, or with the empty list, is what the writer gives, accepted or not
+-- ---- as the writer does with one list, accepted or not
 
 no-trips : parse [] ≡ trips []
 unfolding parse parseFrom
@@ -241,6 +250,7 @@ module _ (x buffer : List ℕ) where
   spelling-fits : listAnswer x .number ≡ 0 → length (spelling x) ≤ 4096
   spelling-fits e = omega (arith, never-longer x, accepted-short x (listAnswer x .count) (done-of x e))
 
+  -- a list joined with itself
   pub joined-self : (joinAnswer x x buffer ≡ writeAnswer x buffer) × (joined x x buffer ≡ written x buffer)
   unfolding joinAnswer joined writeAnswer written
   joined-self =
@@ -248,6 +258,7 @@ module _ (x buffer : List ℕ) where
       (λ e. rw (eq-eqb _ _ e, agree-self (tripsIn x) (trips-valid x), join-self (tripsIn x) (trips-valid x), le-leb _ _ (spelling-fits e)) (refl, refl))
       (λ e. cases (eqb (length buffer) greatestList) (λ h. rw (h, ne-eqb _ _ e, ne-eqb _ _ e) (refl, refl)) (λ h. rw h (refl, refl)))
 
+  -- with the empty list
   pub joined-empty : (joinAnswer x [] buffer ≡ writeAnswer x buffer) × (joined x [] buffer ≡ written x buffer)
   unfolding joinAnswer joined writeAnswer written
   joined-empty =
@@ -255,6 +266,7 @@ module _ (x buffer : List ℕ) where
       (λ e. rw (eq-eqb _ _ e, empty-accepted, no-trips, agree-none (tripsIn x), join-none (tripsIn x) (trips-valid x), le-leb _ _ (spelling-fits e)) (refl, refl))
       (λ e. cases (eqb (length buffer) greatestList) (λ h. rw (h, ne-eqb _ _ e, ne-eqb _ _ e) (refl, refl)) (λ h. rw h (refl, refl)))
 
+  -- and the empty list with it
   pub empty-joined : (joinAnswer [] x buffer ≡ writeAnswer x buffer) × (joined [] x buffer ≡ written x buffer)
   unfolding joinAnswer joined writeAnswer written
   empty-joined =
