@@ -122,12 +122,12 @@ disagreeing t u e =
     (λ q. absurd (true-not-false (agreeing t u) (agree-other t u q) e))
 
 module _ (xs ys : List Trip) where
-  -- two lists agree exactly if any two trips of them of one minute are equal
+  -- of lists that agree any two trips of one minute are equal
   pub agree-all : agree xs ys ≡ true → (t u : Trip) → List·Memᴰ t xs → List·Memᴰ u ys → t .minute ≡ u .minute → t ≡ u
   unfolding agree
   agree-all e t u m k q = agreed t u (every-member (agreeing t) ys u (every-member (λ v. every (agreeing v) ys) xs t e m) k) q
 
-  -- and do not exactly if there is a conflict
+  -- lists that do not agree have a conflict
   pub disagree : agree xs ys ≡ false → Conflict xs ys
   unfolding agree
   disagree e =
@@ -136,18 +136,22 @@ module _ (xs ys : List Trip) where
       let d = disagreeing (a .0) (b .0) (b .2) in
       record { first = a .0; second = b .0; in-first = a .1; in-second = b .1; minute = d .0; differ = d .1 }
 
+  -- its trips are not equal
   pub conflict-differs : (c : Conflict xs ys) → c .first ≢ c .second
   conflict-differs c q = ⊎-elim (λ m. m (ap (λ (v : Trip). v .metres) q)) (λ d. d (ap (λ (v : Trip). v .driver) q)) (c .differ)
 
+  -- and lists with a conflict do not agree
   pub conflict-disagree : Conflict xs ys → agree xs ys ≡ false
   conflict-disagree c = is-false (agree xs ys) (λ e. conflict-differs c (agree-all e (c .first) (c .second) (c .in-first) (c .in-second) (c .minute)))
 
+  -- lists agree where any two trips of one minute are equal
   pub all-agree : ((t u : Trip) → List·Memᴰ t xs → List·Memᴰ u ys → t .minute ≡ u .minute → t ≡ u) → agree xs ys ≡ true
   all-agree h =
       cases (agree xs ys)
       (λ e. e)
       (λ e. let c = disagree e in absurd (conflict-differs c (h (c .first) (c .second) (c .in-first) (c .in-second) (c .minute))))
 
+-- whichever comes first
 pub agree-commutes : (xs ys : List Trip) → agree xs ys ≡ agree ys xs
 agree-commutes xs ys =
     cases (agree xs ys)
@@ -211,15 +215,18 @@ has-second (a ∷ xs) ys t e m =
     insert-keeps t a (join xs ys) (agree-all (a ∷ xs) ys e a t (List·Memᴰ·head refl) m)
     (has-second xs ys t (all-agree xs ys (λ u v k. agree-all (a ∷ xs) ys e u v (List·Memᴰ·tail k))) m)
 
--- ---- it is valid: its minutes rise, so that no trip appears twice
+-- ---- its order
 
 module _ (xs ys : List Trip) (ex : valid xs ≡ true) (ey : valid ys ≡ true) where
+  -- it is valid
   pub joined-valid : valid (join xs ys) ≡ true
   joined-valid = join-valid 0 xs ys ex ey
 
+  -- its minutes rise strictly
   pub joined-rise : (d : Trip) (i j : ℕ) → i < j → j < length (join xs ys) → getD (join xs ys) i d .minute < getD (join xs ys) j d .minute
   joined-rise d = minutes-rise 0 (join xs ys) d joined-valid
 
+  -- no trip appears twice
   pub joined-once : (d : Trip) (i j : ℕ) → i < length (join xs ys) → j < length (join xs ys) → getD (join xs ys) i d ≡ getD (join xs ys) j d → i ≡ j
   joined-once d i j h k q =
       let m = ap (λ (t : Trip). t .minute) q in
@@ -227,15 +234,16 @@ module _ (xs ys : List Trip) (ex : valid xs ≡ true) (ey : valid ys ≡ true) w
       (λ e. e)
       (λ e. split-lt i j (λ l. absurd (omega (arith, m, joined-rise d i j l k))) (λ l. absurd (omega (arith, m, joined-rise d j i (omega arith) h))))
 
--- ---- the join is the one valid list with the trips of both
+-- ---- it is the one list of its kind
 
+-- a valid list with each trip of two lists, and no others
 pub record IsJoin (xs ys zs : List Trip) : Type 0 where
   pub order : valid zs ≡ true
   pub first : (t : Trip) → List·Memᴰ t xs → List·Memᴰ t zs
   pub second : (t : Trip) → List·Memᴰ t ys → List·Memᴰ t zs
   pub others : (t : Trip) → List·Memᴰ t zs → List·Memᴰ t xs ⊎ List·Memᴰ t ys
 
--- lists that do not agree have none
+-- lists with a conflict have none
 pub conflict-none : (xs ys zs : List Trip) → Conflict xs ys → IsJoin xs ys zs → ⊥
 conflict-none xs ys zs c j =
     conflict-differs xs ys c (one-minute 0 zs (c .first) (c .second) (j .order) (j .first (c .first) (c .in-first)) (j .second (c .second) (c .in-second)) (c .minute))
@@ -244,6 +252,7 @@ joined-agree : (xs ys zs : List Trip) → IsJoin xs ys zs → agree xs ys ≡ tr
 joined-agree xs ys zs j = cases (agree xs ys) (λ e. e) (λ e. absurd (conflict-none xs ys zs (disagree xs ys e) j))
 
 module _ (xs ys : List Trip) (ex : valid xs ≡ true) (ey : valid ys ≡ true) where
+  -- those that agree have the join
   pub is-join : agree xs ys ≡ true → IsJoin xs ys (join xs ys)
   is-join e =
       record {
@@ -253,6 +262,7 @@ module _ (xs ys : List Trip) (ex : valid xs ≡ true) (ey : valid ys ≡ true) w
         others = no-others xs ys;
       }
 
+  -- and no other
   pub only-join : (zs : List Trip) → IsJoin xs ys zs → zs ≡ join xs ys
   only-join zs j =
       let k = is-join (joined-agree xs ys zs j) in
@@ -283,12 +293,23 @@ join-associates xs ys zs ex ey ez e f g =
       others = λ t m. ⊎-elim (λ k. inl (a .first t k)) (λ k. ⊎-elim (λ l. inl (a .second t l)) (λ l. inr l) (b .others t k)) (c .others t m);
     })
 
--- a list joined with itself, or with no trips, is itself
+-- a list agrees with itself, and with no trips
 pub agree-self : (xs : List Trip) → valid xs ≡ true → agree xs xs ≡ true
 agree-self xs e = all-agree xs xs (λ t u. one-minute 0 xs t u e)
 
+pub agree-none : (xs : List Trip) → agree xs [] ≡ true
+agree-none xs = all-agree xs [] (λ t u m k. absurd (List·Memᴰ·not-nil k))
+
+pub none-agree : (xs : List Trip) → agree [] xs ≡ true
+none-agree xs = agree-commutes [] xs ∙ agree-none xs
+
+-- joined with itself it is itself
 pub join-self : (xs : List Trip) → valid xs ≡ true → join xs xs ≡ xs
 join-self xs e = sym (only-join xs xs e e xs (record { order = e; first = λ t m. m; second = λ t m. m; others = λ t m. inl m }))
 
+-- and with no trips, on either side
 pub join-none : (xs : List Trip) → valid xs ≡ true → join xs [] ≡ xs
 join-none xs e = sym (only-join xs [] e refl xs (record { order = e; first = λ t m. m; second = λ t m. absurd (List·Memᴰ·not-nil m); others = λ t m. inl m }))
+
+pub none-join : (xs : List Trip) → join [] xs ≡ xs
+none-join xs = refl

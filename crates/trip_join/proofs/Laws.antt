@@ -9,12 +9,13 @@ use native.Mathlib.Numerals.{add-one}
 use lib.Dec.{eqb, leb}
 use lib.ListN.{length, getD, drop, drop-of-length-le}
 use lib.Seq.{drop-cons}
-use borrow.Author.Tests.{eq-eqb, ne-eqb, eqb-true, lt-ltb, le-ltb, leb-true, le-leb}
+use borrow.Author.Tests.{eq-eqb, ne-eqb, eqb-true, lt-ltb, le-ltb, le-leb}
 use Rattle.memory.proofs.Cases.{split-eq, split-lt}
 use Rattle.scan.specs.Scan.{every}
 use Rattle.scan.proofs.Scan.{and-left, and-right, and-both}
 use Rattle.trip_list.specs.Trip.{Trip, trip, inLimits}
 use Rattle.trip_list.specs.List.{validFrom}
+use Rattle.trip_list.proofs.Claims.{first-valid}
 use Rattle.trip_join.specs.Join.{sameBytes, sameRest, agreeing, agree, insert, join}
 
 -- ---- the first of valid trips
@@ -22,10 +23,10 @@ use Rattle.trip_join.specs.Join.{sameBytes, sameRest, agreeing, agree, i
 module _ (n : ℕ) (t : Trip) (ts : List Trip) where
   -- those after it have later minutes
   pub later : validFrom n (t ∷ ts) ≡ true → validFrom (t .minute + 1) ts ≡ true
-  later e = and-right (inLimits t) (validFrom (t .minute + 1) ts) (and-right (leb n (t .minute)) (inLimits t && validFrom (t .minute + 1) ts) e)
+  later e = first-valid n t ts e .rest
 
   pub rising : validFrom n (t ∷ ts) ≡ true → n ≤ t .minute
-  rising e = leb-true n (t .minute) (and-left (leb n (t .minute)) (inLimits t && validFrom (t .minute + 1) ts) e)
+  rising e = first-valid n t ts e .rises
 
   pub limited : validFrom n (t ∷ ts) ≡ true → inLimits t ≡ true
   limited e = and-left (inLimits t) (validFrom (t .minute + 1) ts) (and-right (leb n (t .minute)) (inLimits t && validFrom (t .minute + 1) ts) e)

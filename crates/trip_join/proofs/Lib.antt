@@ -1,2 +1,4 @@
 pub mod Laws
 pub mod Claims
+pub mod CallClaims
+pub mod Table
