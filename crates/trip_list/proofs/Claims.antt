@@ -159,7 +159,7 @@ first-limits s e =
     let x = texts s e .three in
     rw (le-leb _ _ (number-small (minuteOf s) (x .minute)), le-leb _ _ (number-small (metresOf s) (x .metres)), x .driver)
 
-parsed-valid : (least : ℕ) (s : List ℕ) (ts : List Trip) → parseFrom least s ≡ trips ts → validFrom least ts ≡ true
+pub parsed-valid : (least : ℕ) (s : List ℕ) (ts : List Trip) → parseFrom least s ≡ trips ts → validFrom least ts ≡ true
 parsed-valid least s [] q = refl
 parsed-valid least s (t ∷ ts) q =
     let f = parsed-first least s t ts q in

@@ -71,6 +71,18 @@ start-next (suc k) s =
     let q : lineLength (drop i rest) ≡ lineLength (drop (lineLength s + i) s) = ap lineLength (drop-drop i (lineLength s) s) in
     omega (arith, start-next k rest, q)
 
+-- ---- a line and those after it
+
+pub line-before : (list : List ℕ) (at least : ℕ) → at < length list → (l : line.Line) → LineAt list at l → least ≤ l .minute
+    → parseFrom least (drop at list) ≡ before (firstTrip (drop at list)) (parseFrom (l .minute + 1) (drop (at + l .length) list))
+line-before list at least inside l a rises =
+    let s = drop at list in
+    let m : l .minute ≡ firstTrip s .minute = a .read .minute in
+    let some : 0 < length s = omega (arith, length-drop at list) in
+    let up : least ≤ firstTrip s .minute = omega arith in
+    let rest : drop (lineLength s) s ≡ drop (at + l .length) list = drop-drop (lineLength s) at list ∙ ap (λ (k : ℕ). drop (at + k) list) (sym (a .read .size)) in
+    from-next least s some (a .form) up ∙ rw (rest, m)
+
 -- ---- the lines before an index
 
 -- `passed` are their trips, `count` in number
@@ -96,9 +108,6 @@ module _ (list : List ℕ) (at least count : ℕ) (w : Walked list at least coun
     abbrev s : List ℕ
     s = drop at list
 
-    some : 0 < length s
-    some = omega (arith, length-drop at list)
-
     spelled-shorter : length (spelledLine list at) ≤ l .length
     unfolding spelledLine
     spelled-shorter = omega (arith, spell-shorter s (a .form), a .read .size)
@@ -109,12 +118,8 @@ module _ (list : List ℕ) (at least count : ℕ) (w : Walked list at least coun
     pub walked-next : least ≤ l .minute → Walked list (at + l .length) (l .minute + 1) (count + 1)
     unfolding spelledLine
     walked-next rises =
-        let m : l .minute ≡ firstTrip s .minute = a .read .minute in
         let n : lineLength s ≡ l .length = sym (a .read .size) in
-        let up : least ≤ firstTrip s .minute = omega arith in
-        let rest : drop (lineLength s) s ≡ drop (at + l .length) list = drop-drop (lineLength s) at list ∙ ap (λ (k : ℕ). drop (at + k) list) n in
-        let step : parseFrom least s ≡ before (firstTrip s) (parseFrom (l .minute + 1) (drop (at + l .length) list)) =
-        from-next least s some (a .form) up ∙ rw (rest, m) in
+        let step = line-before list at least inside l a rises in
         let more : length (spell (w .passed ++ (firstTrip s ∷ []))) ≡ length (spell (w .passed)) + length (spellTrip (firstTrip s)) =
         ap length (spell-join (w .passed) (firstTrip s ∷ [])) ∙ length-append (spell (w .passed)) (spell (firstTrip s ∷ [])) ∙ ap (λ (x : List ℕ). length (spell (w .passed)) + length x) (append-nil (spellTrip (firstTrip s))) in
         record {

@@ -1,2 +1,4 @@
 pub mod Pieces
 pub mod Writing
+pub mod Joining
+pub mod Answers

@@ -47,6 +47,10 @@ module _ (list : List ℕ) (at : ℕ) (l : line.Line) (a : LineAt list at l) whe
       ∙ after-mark (minuteOf s) comma _)
       ∙ take-at (metresOf s) _ n (omega (arith, a .read .second, a .read .driver, driver-start s (a .form)))
 
+  pub spelled-shorter : length (spelledLine list at) ≤ l .length
+  unfolding spelledLine
+  spelled-shorter = omega (arith, spell-shorter s (a .form), a .read .size)
+
   -- the numbers and their marks lie within the line
   pub fields-inside : (1 ≤ l .second) × (l .second < l .driver) × (l .driver ≤ l .length)
   fields-inside = omega (arith, a .read .second, a .read .driver, a .read .size, driver-start s (a .form), parts-length s (a .form))

@@ -1,18 +1,23 @@
-// The writer of trip lists: a list in its one spelling.
+// The writer of trip lists: a list in its one spelling, and two lists joined into one.
 use answer::Answer;
 use answer::Refusal;
 use trip_list::Line;
 use trip_list::Step;
 ghost use mathlib.Core.Path.{_≡_};
+ghost use mathlib.Core.Bool.{_&&_};
 ghost use mathlib.Core.List.{_++_};
-ghost use Prim.Native.Nat.{_+_, _-_, _*_, _≤_};
-ghost use lib.ListN.{length, take};
+ghost use Prim.Native.Nat.{_+_, _-_, _*_, _≤_, _<_, min};
+ghost use lib.ListN.{length, take, drop};
 ghost use Rattle.answer.specs.Coded.{coded};
+ghost use Rattle.answer.specs.Admission.{ifDone};
 ghost use Rattle.memory.specs.Bytes.{part, overwrite};
 ghost use Rattle.text.specs.Decimal.{leadingZeros};
-ghost use Rattle.trip_list.specs.List.{writeAnswer, written};
+ghost use Rattle.trip_list.specs.List.{greatestList, listAnswer, writeAnswer, written};
+ghost use Rattle.trip_list.specs.Lines.{firstTrip};
 ghost use Rattle.trip_list.specs.Scanner.{greatestLine, LineAt, spelledLine};
+ghost use Rattle.trip_join.specs.Join.{sameBytes, sameRest, joinAnswer, joined};
 ghost use Rattle.trip_writer.specs.Spelling.{KeptAt, Spelled};
+ghost use Rattle.trip_writer.specs.Joining.{noMinute, Headed, Joining};
 
 // The longest list.
 const MAX_LIST: usize = 4096;
@@ -168,4 +173,212 @@ pub fn write(list: &[u8], buffer: &mut [u8]) -> Answer
         }
         Answer::Refused(refusal) => Answer::Refused(refusal),
     }
+}
+
+// ---- two lists
+
+// Above every minute.
+const NO_MINUTE: usize = 4294967296;
+
+// The line that starts at index `at` of a list, whose minute is to be at least `least`. Where there is none, or one that is refused,
+// a minute above all others.
+fn head(list: &[u8], at: usize, least: usize) -> Line
+    ensures { λ r. ⌜ Headed (now (list .entry)) at least r ⌝ }
+{
+    match trip_list::line_at(list, at, least) {
+        Step::At(line) => line,
+        Step::Refused(_) => Line {
+            fits: false,
+            minute: NO_MINUTE,
+            metres: 0,
+            second: 0,
+            driver: 0,
+            letters: 0,
+            length: 0,
+        },
+    }
+}
+
+fn same_bytes(a: &[u8], b: &[u8]) -> bool
+    ensures { λ r. ⌜ r ≡ sameBytes (now (a .entry)) (now (b .entry)) ⌝ }
+{
+    if a.len() != b.len() {
+        return false;
+    }
+    let mut i = 0;
+    while i < a.len() {
+        if a[i] == b[i] {
+            i += 1;
+        } else {
+            return false;
+        }
+    }
+    true
+}
+
+// Whether the lines at two indices have the same metres and driver.
+fn same_rest(first: &[u8], i: usize, a: Line, second: &[u8], j: usize, b: Line) -> bool
+    requires { ⌜ LineAt (now first) i a × LineAt (now second) j b ⌝ }
+    ensures { λ r. ⌜ r ≡ sameRest (firstTrip (drop i (now (first .entry)))) (firstTrip (drop j (now (second .entry)))) ⌝ }
+{
+    if a.metres != b.metres {
+        return false;
+    }
+    let start = i + a.driver;
+    let end = start + a.letters;
+    let start2 = j + b.driver;
+    let end2 = start2 + b.letters;
+    same_bytes(&first[start..end], &second[start2..end2])
+}
+
+// The one spelling of the line that starts at index `at` is laid over the output from `end` on, where that is within the longest list.
+// The index after it comes back, wherever that is.
+fn put_within(list: &[u8], at: usize, line: Line, output: &mut [u8], end: usize) -> usize
+    requires { ⌜ LineAt (now list) at line × (greatestList + 2 * greatestLine ≤ length (now output)) × (end ≤ 2 * greatestList) ⌝ }
+    ensures { λ r. ⌜ (r ≡ end + length (spelledLine (now (list .entry)) at))
+        × (r ≤ greatestList → take r (now (output .exit)) ≡ take end (now (output .entry)) ++ spelledLine (now (list .entry)) at) ⌝ }
+{
+    let place = number::min(end, MAX_LIST);
+    end + (put_line(list, at, line, output, place) - place)
+}
+
+// How far two lists are joined: the index of the next line of each, and that line; the bytes of the joined list up to there; whether
+// the lists agree up to there.
+struct Stage {
+    i: usize,
+    a: Line,
+    j: usize,
+    b: Line,
+    end: usize,
+    agree: bool,
+}
+
+fn both(a: bool, b: bool) -> bool
+    ensures { λ r. ⌜ r ≡ a && b ⌝ }
+{
+    if a { b } else { false }
+}
+
+// The next trip of the join. Of two of one minute the first list's line is taken.
+fn join_next(first: &[u8], second: &[u8], s: Stage, output: &mut [u8]) -> Stage
+    requires { ⌜ Joining (now first) (now second) (now output) s × (min (s .a .minute) (s .b .minute) < noMinute) ⌝ }
+    ensures { λ r. ⌜ Joining (now (first .entry)) (now (second .entry)) (now (output .exit)) r × (s .i + s .j < r .i + r .j) ⌝ }
+{
+    let i = s.i;
+    let a = s.a;
+    let j = s.j;
+    let b = s.b;
+    if a.minute < b.minute {
+        let end = put_within(first, i, a, output, s.end);
+        let next = i + a.length;
+        let line = head(first, next, a.minute + 1);
+        return Stage {
+            i: next,
+            a: line,
+            j,
+            b,
+            end,
+            agree: s.agree,
+        };
+    }
+    if b.minute < a.minute {
+        let end = put_within(second, j, b, output, s.end);
+        let next = j + b.length;
+        let line = head(second, next, b.minute + 1);
+        return Stage {
+            i,
+            a,
+            j: next,
+            b: line,
+            end,
+            agree: s.agree,
+        };
+    }
+    let agree = both(s.agree, same_rest(first, i, a, second, j, b));
+    let end = put_within(first, i, a, output, s.end);
+    let next = i + a.length;
+    let line = head(first, next, a.minute + 1);
+    let next2 = j + b.length;
+    let line2 = head(second, next2, b.minute + 1);
+    Stage {
+        i: next,
+        a: line,
+        j: next2,
+        b: line2,
+        end,
+        agree,
+    }
+}
+
+// The least minute of the next lines.
+fn next_minute(s: Stage) -> usize
+    ensures { λ r. ⌜ r ≡ min (s .a .minute) (s .b .minute) ⌝ }
+{
+    let a = s.a;
+    let b = s.b;
+    number::min(a.minute, b.minute)
+}
+
+// The one spelling of the join of two lists is laid over the front of the output, up to its end or that of the longest list. Each list
+// is gone through to its end or to the first line that is refused.
+fn join_lines(first: &[u8], second: &[u8], output: &mut [u8]) -> Stage
+    requires { ⌜ (length (now first) ≤ greatestList) × (length (now second) ≤ greatestList) × (greatestList + 2 * greatestLine ≤ length (now output)) ⌝ }
+    ensures { λ r. ⌜ Joining (now (first .entry)) (now (second .entry)) (now (output .exit)) r × (noMinute ≤ min (r .a .minute) (r .b .minute)) ⌝ }
+{
+    let a = head(first, 0, 0);
+    let b = head(second, 0, 0);
+    let mut s = Stage {
+        i: 0,
+        a,
+        j: 0,
+        b,
+        end: 0,
+        agree: true,
+    };
+    while next_minute(s) < NO_MINUTE {
+        s = join_next(first, second, s, output);
+    }
+    s
+}
+
+// The refusal of two lists of which one is refused: the first one's before the second one's.
+fn refused(first: &[u8], second: &[u8]) -> Answer
+    ensures { λ r. ⌜ coded r ≡ ifDone (listAnswer (now (first .entry))) (listAnswer (now (second .entry))) (listAnswer (now (first .entry))) ⌝ }
+{
+    let answer = trip_list::check(first);
+    match answer {
+        Answer::Done(_) => trip_list::check(second),
+        Answer::Refused(refusal) => Answer::Refused(refusal),
+    }
+}
+
+// Writes the join of two lists, in its one spelling, to the front of a buffer of 4,096 bytes, and counts its bytes. It is spelled into
+// an array first, as a list is that is written.
+pub fn join(first: &[u8], second: &[u8], buffer: &mut [u8]) -> Answer
+    ensures { λ r. ⌜ (coded r ≡ joinAnswer (now (first .entry)) (now (second .entry)) (now (buffer .entry)))
+        × (now (buffer .exit) ≡ joined (now (first .entry)) (now (second .entry)) (now (buffer .entry))) ⌝ }
+{
+    if buffer.len() != MAX_LIST {
+        return Answer::Refused(Refusal::Shape);
+    }
+    if number::max(first.len(), second.len()) > MAX_LIST {
+        return refused(first, second);
+    }
+    let mut spelled = [0u8; ROOM];
+    let s = join_lines(first, second, &mut spelled);
+    if s.i < first.len() {
+        return refused(first, second);
+    }
+    if s.j < second.len() {
+        return refused(first, second);
+    }
+    if s.agree {
+        let end = s.end;
+        if end > MAX_LIST {
+            return Answer::Refused(Refusal::TripsTooLong);
+        }
+        memory::copy(buffer, &spelled[..end]);
+        return Answer::Done(end);
+    }
+    Answer::Refused(Refusal::TripConflict)
 }

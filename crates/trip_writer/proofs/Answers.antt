@@ -1,0 +1,85 @@
+-- What the join of two lists gives, by how its loop ended.
+use mathlib.Core.Path.{_≡_, refl, sym, ap, _∙_}
+use mathlib.Core.Bool.{Bool, true, false}
+use mathlib.Core.List.{List}
+use mathlib.Core.Logic.{_≢_}
+use Prim.Native.Nat.{ℕ, _≤_, _<_, max}
+use native.Mathlib.Omega.{arith}
+use lib.ListN.{length, take}
+use borrow.Author.Tests.{eq-eqb, ne-eqb, eqb-true, le-leb, lt-leb}
+use borrow.Table.Steps.{cases}
+use Rattle.answer.specs.Coded.{Coded, done, SHAPE, TRIP-CONFLICT, TRIPS-TOO-LONG}
+use Rattle.answer.specs.Admission.{ifDone}
+use Rattle.memory.specs.Bytes.{overwrite}
+use Rattle.trip_list.specs.List.{Parsed, trips, parse, tripsOf, greatestList, answerOf, listAnswer}
+use Rattle.trip_list.proofs.Parsing.{accepted-short, accepted, list-parsed}
+use Rattle.trip_join.specs.Join.{isDone, joinAnswer, joined}
+use Rattle.trip_writer.specs.declared.Stage as stage
+use Rattle.trip_writer.specs.Joining.{Trips}
+use Rattle.trip_writer.proofs.Joining.{Ended}
+
+-- ---- accepted lists
+
+done-count : (a : Coded) → isDone a ≡ true → a ≡ done (a .count)
+done-count a e = ap (λ (k : ℕ). record { number = k; count = a .count }) (eqb-true (a .number) 0 e)
+
+short-done : (list : List ℕ) → isDone (listAnswer list) ≡ true → length list ≤ greatestList
+short-done list e = accepted-short list _ (done-count (listAnswer list) e)
+
+trips-done : (list : List ℕ) → isDone (listAnswer list) ≡ true → Trips (parse list)
+trips-done list e = accepted list _ (done-count (listAnswer list) e)
+
+answer-trips : (p : Parsed) → Trips p → answerOf p ≡ done (length (tripsOf p))
+answer-trips p e = ap answerOf e
+
+done-trips : (list : List ℕ) → length list ≤ greatestList → Trips (parse list) → listAnswer list ≡ done (length (tripsOf (parse list)))
+done-trips list h t = sym (list-parsed list h) ∙ answer-trips (parse list) t
+
+-- ---- the call
+
+pub join-shape : (x y buffer : List ℕ) → length buffer ≢ greatestList → (SHAPE ≡ joinAnswer x y buffer) × (buffer ≡ joined x y buffer)
+unfolding joinAnswer joined
+join-shape x y buffer n = rw (ne-eqb _ _ n) (refl, refl)
+
+module _ (x y buffer : List ℕ) (h : length buffer ≡ greatestList) where
+  -- not both lists are accepted
+  join-refused : (isDone (listAnswer x) ≡ true → isDone (listAnswer y) ≡ true → ⊥) → (a : Coded) → a ≡ ifDone (listAnswer x) (listAnswer y) (listAnswer x)
+      → (a ≡ joinAnswer x y buffer) × (buffer ≡ joined x y buffer)
+  unfolding joinAnswer joined
+  join-refused n a e =
+      cases (isDone (listAnswer x))
+      (λ d. cases (isDone (listAnswer y))
+      (λ f. absurd (n d f))
+      (λ f. (e ∙ rw (eq-eqb _ _ h, d, f), rw (eq-eqb _ _ h, d, f, f))))
+      (λ d. (e ∙ rw (eq-eqb _ _ h, d), rw (eq-eqb _ _ h, d, d)))
+
+  module _ (a : Coded) (e : a ≡ ifDone (listAnswer x) (listAnswer y) (listAnswer x)) where
+    pub join-long : greatestList < max (length x) (length y) → (a ≡ joinAnswer x y buffer) × (buffer ≡ joined x y buffer)
+    join-long l = join-refused (λ d f. absurd (omega (arith, short-done x d, short-done y f))) a e
+
+    pub join-first : (Trips (parse x) → ⊥) → (a ≡ joinAnswer x y buffer) × (buffer ≡ joined x y buffer)
+    join-first n = join-refused (λ d f. n (trips-done x d)) a e
+
+    pub join-second : (Trips (parse y) → ⊥) → (a ≡ joinAnswer x y buffer) × (buffer ≡ joined x y buffer)
+    join-second n = join-refused (λ d f. n (trips-done y f)) a e
+
+  -- both are
+  module _ (hx : length x ≤ greatestList) (hy : length y ≤ greatestList) (xs : List ℕ) (s : stage.Stage) (w : Ended x y xs s) where
+    first-done : listAnswer x ≡ done (length (tripsOf (parse x)))
+    first-done = done-trips x hx (w .first)
+
+    second-done : listAnswer y ≡ done (length (tripsOf (parse y)))
+    second-done = done-trips y hy (w .second)
+
+    pub join-conflict : s .agree ≡ false → (TRIP-CONFLICT ≡ joinAnswer x y buffer) × (buffer ≡ joined x y buffer)
+    unfolding joinAnswer joined
+    join-conflict n = rw (eq-eqb _ _ h, first-done, second-done, w .agrees, n) (refl, refl)
+
+    module _ (agrees : s .agree ≡ true) where
+      pub join-too-long : greatestList < s .end → (TRIPS-TOO-LONG ≡ joinAnswer x y buffer) × (buffer ≡ joined x y buffer)
+      unfolding joinAnswer joined
+      join-too-long l = rw (eq-eqb _ _ h, first-done, second-done, w .agrees, agrees, ← (w .ends), lt-leb _ _ l) (refl, refl)
+
+      pub join-done : s .end ≤ greatestList → (ys : List ℕ) → ys ≡ overwrite buffer 0 (take (s .end) xs) → (done (s .end) ≡ joinAnswer x y buffer) × (ys ≡ joined x y buffer)
+      unfolding joinAnswer joined
+      join-done l ys e = rw (eq-eqb _ _ h, first-done, second-done, w .agrees, agrees, ← (w .ends), le-leb _ _ l) (refl, e ∙ ap (overwrite buffer 0) (w .laid l))

@@ -1,0 +1,55 @@
+-- How far two lists are joined.
+use mathlib.Core.Path.{_≡_}
+use mathlib.Core.Bool.{_&&_}
+use mathlib.Core.List.{List, [], _++_}
+use Prim.Native.Nat.{ℕ, _+_, _*_, _≤_, _<_}
+use lib.ListN.{length, take, drop}
+use Rattle.trip_list.specs.declared.Line as line
+use Rattle.trip_list.specs.Trip.{Trip, spell}
+use Rattle.trip_list.specs.List.{Parsed, trips, parse, parseFrom, tripsOf, greatestList}
+use Rattle.trip_list.specs.Scanner.{greatestLine, LineAt}
+use Rattle.trip_join.specs.Join.{agree, join, joinedTrips}
+use Rattle.trip_writer.specs.declared.Stage as stage
+
+-- above every minute
+abbrev pub noMinute : ℕ
+noMinute = 4294967296
+
+-- these are trips, and no refusal
+abbrev pub Trips : Parsed → Type 0
+Trips p = p ≡ trips (tripsOf p)
+
+-- what a list has from an index on, with minutes of at least `least`
+abbrev pub from : List ℕ → ℕ → ℕ → Parsed
+from list at least = parseFrom least (drop at list)
+
+-- the next line of a list, from an index on, or a minute above all others
+pub record Headed (list : List ℕ) (at least : ℕ) (h : line.Line) : Type 0 where
+  pub small : h .minute ≤ noMinute
+  pub line : h .minute < noMinute → LineAt list at h × (least ≤ h .minute) × (at < length list)
+  -- none is left, or one is refused
+  pub none : noMinute ≤ h .minute → at < length list → Trips (from list at least) → ⊥
+
+-- an index that a walk over the list comes to, and the next line
+pub record HeadAt (list : List ℕ) (at : ℕ) (h : line.Line) : Type 0 where
+  pub least : ℕ
+  pub headed : Headed list at least h
+  pub within : at ≤ length list
+  -- the list is accepted exactly where its rest is
+  pub rest : Trips (parse list) → Trips (from list at least)
+  pub whole : Trips (from list at least) → Trips (parse list)
+
+-- the trips of the join up to some are spelled at the front of xs, as far as they fit
+pub record Spelt (x y xs : List ℕ) (s : stage.Stage) (ts us : List Trip) : Type 0 where
+  pub passed : List Trip
+  pub joins : joinedTrips x y ≡ passed ++ join ts us
+  pub agrees : agree (tripsOf (parse x)) (tripsOf (parse y)) ≡ s .agree && agree ts us
+  pub ends : s .end ≡ length (spell passed)
+  pub laid : s .end ≤ greatestList → take (s .end) xs ≡ spell passed
+
+pub record Joining (x y xs : List ℕ) (s : stage.Stage) : Type 0 where
+  pub first : HeadAt x (s .i) (s .a)
+  pub second : HeadAt y (s .j) (s .b)
+  pub shorter : s .end ≤ s .i + s .j
+  pub small : (length x ≤ greatestList) × (length y ≤ greatestList) × (greatestList + 2 * greatestLine ≤ length xs)
+  pub spelt : Trips (parse x) → Trips (parse y) → Spelt x y xs s (tripsOf (from x (s .i) (first .least))) (tripsOf (from y (s .j) (second .least)))
