@@ -15,6 +15,7 @@ use Rattle.state_bytes.specs.Encoding.{encode}
 use Rattle.state_bytes.specs.InPlace.{stateShape}
 use Rattle.trip_list.specs.List.{writeAnswer, written}
 use Rattle.trip_list.specs.Lookup.{Located, Given}
+use Rattle.trip_join.specs.Join.{joinAnswer, joined}
 
 -- ---- answers
 
@@ -72,3 +73,7 @@ inNumbers g numbers = admit (test (eqb (length numbers) 4) SHAPE ∷ []) numbers
 -- the writer
 abbrev pub writeTrips : List ℕ → List ℕ → Result (List ℕ)
 writeTrips list buffer = give (writeAnswer list buffer) (written list buffer)
+
+-- the join
+abbrev pub joinTrips : List ℕ → List ℕ → List ℕ → Result (List ℕ)
+joinTrips first second buffer = give (joinAnswer first second buffer) (joined first second buffer)

@@ -20,7 +20,7 @@ ghost use Rattle.device.specs.Syncing.{sync};
 ghost use Rattle.device.specs.Mounting.{mount, format};
 ghost use Rattle.state_bytes.specs.InPlace.{borrowed, onBytes, readBytes, lookCountBytes, lookSpanBytes};
 ghost use Rattle.trip_list.specs.Lookup.{looked, readTrip, nextTrip};
-ghost use Rattle.boxstore.specs.Interface.{wordOf, reply, inWord, spanWord, downBytes, truncateSizes, overNumbers, inNumbers, writeTrips};
+ghost use Rattle.boxstore.specs.Interface.{wordOf, reply, inWord, spanWord, downBytes, truncateSizes, overNumbers, inNumbers, writeTrips, joinTrips};
 ghost use Rattle.media.specs.Moments.{mediaAtEntry, mediaAtExit};
 ghost use Rattle.state_bytes.specs.Moments.{borrowedAtEntry, borrowedAtExit};
 
@@ -281,5 +281,13 @@ pub extern "C" fn boxstore_next_trip(list: &[u8], at: usize, least: usize, trip:
 pub extern "C" fn boxstore_write_trips(list: &[u8], buffer: &mut [u8]) -> u32
     ensures { λ r. ⌜ reply r (now (buffer .exit)) ≡ inWord (writeTrips (now (list .entry)) (now (buffer .entry))) ⌝ }
 {
-    answer_word(trip_list::write(list, buffer))
+    answer_word(trip_writer::write(list, buffer))
+}
+
+// Join trips: two lists as one in its one spelling, at the front of the buffer; counts its bytes.
+#[no_mangle]
+pub extern "C" fn boxstore_join_trips(first: &[u8], second: &[u8], buffer: &mut [u8]) -> u32
+    ensures { λ r. ⌜ reply r (now (buffer .exit)) ≡ inWord (joinTrips (now (first .entry)) (now (second .entry)) (now (buffer .entry))) ⌝ }
+{
+    answer_word(trip_writer::join(first, second, buffer))
 }

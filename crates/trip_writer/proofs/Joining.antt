@@ -218,12 +218,12 @@ module _ (x y xs : List ℕ) (s : stage.Stage) (w : Joining x y xs s) (ys : List
         shorter = omega (arith, spelled-shorter x (s .i) (s .a) l, w .shorter);
         small = (w .small .0, w .small .1, omega (arith, w .small .2));
         spelt = λ tx ty.
-        let vs = tripsOf (from x (s .i + s .a .length) (s .a .minute + 1)) in
-        let us = tripsOf (from y (s .j) (w .second .least)) in
-        let f = rest-first x (s .i) (s .a) (w .first) some tx in
-        let v = rest-later x (s .i) (s .a) (w .first) some tx in
-        let o = rest-valid y (s .j) (s .b) (w .second) ty (t .minute + 1) (omega (arith, l .read .minute)) in
-        spelt-on x y xs ys s _ _ us vs us t (w .spelt tx ty) (rw f (join-first t vs us v o)) (rw f (ap (λ (b : Bool). s .agree && b) (agree-first t vs us o))) en el;
+            let vs = tripsOf (from x (s .i + s .a .length) (s .a .minute + 1)) in
+            let us = tripsOf (from y (s .j) (w .second .least)) in
+            let f = rest-first x (s .i) (s .a) (w .first) some tx in
+            let v = rest-later x (s .i) (s .a) (w .first) some tx in
+            let o = rest-valid y (s .j) (s .b) (w .second) ty (t .minute + 1) (omega (arith, l .read .minute)) in
+            spelt-on x y xs ys s _ _ us vs us t (w .spelt tx ty) (rw f (join-first t vs us v o)) (rw f (ap (λ (b : Bool). s .agree && b) (agree-first t vs us o))) en el;
       }
 
   -- the second list's
@@ -240,11 +240,11 @@ module _ (x y xs : List ℕ) (s : stage.Stage) (w : Joining x y xs s) (ys : List
         shorter = omega (arith, spelled-shorter y (s .j) (s .b) l, w .shorter);
         small = (w .small .0, w .small .1, omega (arith, w .small .2));
         spelt = λ tx ty.
-        let ts = tripsOf (from x (s .i) (w .first .least)) in
-        let ws = tripsOf (from y (s .j + s .b .length) (s .b .minute + 1)) in
-        let f = rest-first y (s .j) (s .b) (w .second) some ty in
-        let o = rest-valid x (s .i) (s .a) (w .first) tx (u .minute + 1) (omega (arith, l .read .minute)) in
-        spelt-on x y xs ys s _ ts _ ts ws u (w .spelt tx ty) (rw f (join-second u ts ws o)) (rw f (ap (λ (b : Bool). s .agree && b) (agree-second u ts ws o))) en el;
+            let ts = tripsOf (from x (s .i) (w .first .least)) in
+            let ws = tripsOf (from y (s .j + s .b .length) (s .b .minute + 1)) in
+            let f = rest-first y (s .j) (s .b) (w .second) some ty in
+            let o = rest-valid x (s .i) (s .a) (w .first) tx (u .minute + 1) (omega (arith, l .read .minute)) in
+            spelt-on x y xs ys s _ ts _ ts ws u (w .spelt tx ty) (rw f (join-second u ts ws o)) (rw f (ap (λ (b : Bool). s .agree && b) (agree-second u ts ws o))) en el;
       }
 
   -- both lists' lines, of one minute
@@ -264,15 +264,15 @@ module _ (x y xs : List ℕ) (s : stage.Stage) (w : Joining x y xs s) (ys : List
         shorter = omega (arith, spelled-shorter x (s .i) (s .a) l, w .shorter);
         small = (w .small .0, w .small .1, omega (arith, w .small .2));
         spelt = λ tx ty.
-        let vs = tripsOf (from x (s .i + s .a .length) (s .a .minute + 1)) in
-        let ws = tripsOf (from y (s .j + s .b .length) (s .b .minute + 1)) in
-        let f = rest-first x (s .i) (s .a) (w .first) some tx in
-        let h = rest-first y (s .j) (s .b) (w .second) also ty in
-        let q : t .minute ≡ u .minute = omega (arith, l .read .minute, k .read .minute) in
-        let v = rest-later x (s .i) (s .a) (w .first) some tx in
-        let o : validFrom (t .minute + 1) ws ≡ true = rw q (rest-later y (s .j) (s .b) (w .second) also ty) in
-        spelt-on x y xs ys s _ _ _ vs ws t (w .spelt tx ty) (rw (f, h) (join-both t u vs ws q v))
-        (rw (f, h, agree-both t u vs ws q v o, eg) (and-assoc (s .agree) (sameRest t u) (agree vs ws))) en el;
+            let vs = tripsOf (from x (s .i + s .a .length) (s .a .minute + 1)) in
+            let ws = tripsOf (from y (s .j + s .b .length) (s .b .minute + 1)) in
+            let f = rest-first x (s .i) (s .a) (w .first) some tx in
+            let h = rest-first y (s .j) (s .b) (w .second) also ty in
+            let q : t .minute ≡ u .minute = omega (arith, l .read .minute, k .read .minute) in
+            let v = rest-later x (s .i) (s .a) (w .first) some tx in
+            let o : validFrom (t .minute + 1) ws ≡ true = rw q (rest-later y (s .j) (s .b) (w .second) also ty) in
+            spelt-on x y xs ys s _ _ _ vs ws t (w .spelt tx ty) (rw (f, h) (join-both t u vs ws q v))
+            (rw (f, h, agree-both t u vs ws q v o, eg) (and-assoc (s .agree) (sameRest t u) (agree vs ws))) en el;
       }
 
 -- ---- what the code asks for

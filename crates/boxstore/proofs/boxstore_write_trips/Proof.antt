@@ -1,4 +1,4 @@
--- `boxstore::boxstore_write_trips` meets its contract: the call of trip_list, its answer as a word.
+-- `boxstore::boxstore_write_trips` meets its contract: the call of trip_writer, its answer as a word.
 use mathlib.Core.Path.{_≡_}
 use native.Mathlib.Omega.{arith}
 use borrow.Author.Needs.{needs}
