@@ -677,8 +677,8 @@ mod tests {
     #[test]
     fn steps_on_trip_lists() {
         let list = b"5,1200,ANNA\n017,0,B7\n";
-        let other = b"0017,00,B7\n6,1,C\n";
-        let mut run = Run::new(&[list.to_vec(), other[11..].to_vec(), other.to_vec()]);
+        let (other, bad) = (b"6,1,C\n", b"7,1,C\n6,1,C\n");
+        let mut run = Run::new(&[list.to_vec(), other.to_vec(), bad.to_vec()]);
         let mut step = |step| (run.step::<Reference>(step), run.trip);
         let last = [17, 0, 18, 2];
         let sum = 5 + 1_200 + 7 + 4 + 17 + 18 + 2;
