@@ -576,8 +576,7 @@ mod tests {
 
     use super::*;
 
-    fn work(name: &str) -> Vec<Work> {
-        let scenarios = all();
+    fn work(scenarios: &[Scenario], name: &str) -> Vec<Work> {
         let scenario = scenarios
             .iter()
             .find(|scenario| scenario.name.starts_with(name))
@@ -593,6 +592,8 @@ mod tests {
     #[test]
     fn plain_work() {
         use Work::{Copy, Fill, Scan};
+        let scenarios = all();
+        let work = |name: &str| work(&scenarios, name);
         assert_eq!(work("serial"), [Copy(12), Copy(256)].repeat(16));
         assert_eq!(work("fill"), [Copy(256); 32]);
         assert_eq!(work("read 4,096 bytes, none"), [Copy(4_096); 16]);

@@ -95,7 +95,13 @@ fn is_refused(list: impl AsRef<[u8]>, answer: u32) {
     }
     assert_eq!(written(list), (answer, Vec::new()), "{text:?}");
     // the other list has no say, but where it is the first
-    for other in ["", "0,9,Q\n", "6,1,A\n", "4294967295,9,Q\n"] {
+    for other in [
+        "",
+        "0,9,Q\n",
+        "5,1,A\n",
+        "5,1,A\n6,1,A\n",
+        "4294967295,9,Q\n",
+    ] {
         is_not_joined(list, other, answer);
         is_not_joined(other, list, answer);
     }
