@@ -183,7 +183,7 @@ fn run(options: &Options, out: &mut impl Write) -> io::Result<()> {
         "\nThe media are memory, on both sides. The plain copy is the plain work on the bytes that the calls move: a copy of \
          those between caller and store and of the pages written to the media, a fill of those that a trim clears, and a \
          scan (an OR over the bytes) of those that a mount or a format has to look at; of a trip list a scan where it is \
-         read, and a copy of what is written. bytes/s counts all these. Tuned goes through a trip list byte by byte, by words \
+         read or joined, and a copy of what is written. bytes/s counts all these. Tuned goes through a trip list byte by byte, by words \
          takes eight bytes at a time. \
          Medians of {} rounds of {} ms; a ratio is the median of those of the rounds.\n",
         options.effort.rounds,

@@ -10,7 +10,7 @@ use random_calls::{MemoryVec, Store};
 use random_lists::TripLists;
 use random_sessions::rng::Rng;
 
-use crate::lists::{lists, Spelling};
+use crate::lists::{lists, pairs, Parting, Spelling, LISTS};
 
 /// All calls of `boxstore.h`.
 pub trait Calls: Store + TripLists {}
@@ -87,6 +87,13 @@ pub enum Step {
         /// Which list.
         list: usize,
     },
+    /// Join two lists into the buffer.
+    JoinTrips {
+        /// Which list is the first.
+        first: usize,
+        /// Which one is the second.
+        second: usize,
+    },
     /// No call: puts two pages past the stored size of file 3, as a sync that
     /// was cut leaves them. 512 bytes are copied, on both sides alike.
     LeaveTail,
@@ -141,7 +148,7 @@ fn trips(list: &[u8]) -> usize {
 pub struct Run {
     /// The memory of the store.
     pub memory: MemoryVec,
-    /// Takes what is read, and the spelling of a trip list.
+    /// Takes what is read, and the spelling of a trip list or of a join.
     pub buffer: Vec<u8>,
     /// The trip that was read last.
     trip: [u32; TRIP_NUMBERS],
@@ -200,6 +207,10 @@ impl Run {
             Step::WriteTrips { list } => {
                 S::write_trips(&self.lists[list], &mut self.buffer[..LIST_BYTES]).into()
             }
+            Step::JoinTrips { first, second } => {
+                let buffer = &mut self.buffer[..LIST_BYTES];
+                S::join_trips(&self.lists[first], &self.lists[second], buffer).into()
+            }
             Step::LeaveTail => {
                 let at =
                     3 * FILE_BYTES + PAGE_BYTES * (memory.sizes[3] as usize).div_ceil(PAGE_BYTES);
@@ -233,7 +244,8 @@ impl Run {
     ///   for each trim;
     /// - truncate, look and look count: none;
     /// - read and walk of a trip list: a scan of it;
-    /// - write of a trip list: a copy of what is written.
+    /// - write of a trip list: a copy of what is written;
+    /// - join of two: a scan of both, and a copy of what is written.
     ///
     /// The bytes that fill a page when it becomes cached, and the cache state,
     /// are not counted.
@@ -250,6 +262,10 @@ impl Run {
             }
             Step::ReadTrip { list, .. } | Step::WalkTrips { list } => {
                 work.push(Work::Scan(self.lists[list].len()));
+            }
+            Step::JoinTrips { first, second } if number == 0 => {
+                work.extend([first, second].map(|list| Work::Scan(self.lists[list].len())));
+                work.push(Work::Copy(count));
             }
             Step::Sync { file, .. } if number == 0 || number == 9 => {
                 let floor = size(&before.state, floor_at(file));
@@ -434,6 +450,18 @@ pub fn all() -> Vec<Scenario> {
             &zeros,
             |list, _| Step::WriteTrips { list },
         ),
+        on_pairs(
+            "trip lists: join, minutes of both by turns",
+            Parting::ByTurns,
+        ),
+        on_pairs(
+            "trip lists: join, one after the other",
+            Parting::OneAfterTheOther,
+        ),
+        on_pairs(
+            "trip lists: join, half of the trips in both",
+            Parting::HalfInBoth,
+        ),
     ]
 }
 
@@ -457,6 +485,20 @@ fn on_lists(name: &'static str, lists: &[Vec<u8>], step: fn(usize, usize) -> Ste
             .map(|(index, list)| step(index, trips(list)))
             .collect(),
         lists: lists.to_vec(),
+    }
+}
+
+/// A scenario with a join of each pair.
+fn on_pairs(name: &'static str, parting: Parting) -> Scenario {
+    let step = |pair| Step::JoinTrips {
+        first: 2 * pair,
+        second: 2 * pair + 1,
+    };
+    Scenario {
+        name,
+        prepare: Vec::new(),
+        steps: (0..LISTS).map(step).collect(),
+        lists: pairs(parting).concat(),
     }
 }
 
@@ -533,10 +575,8 @@ mod tests {
     use random_calls::Reference;
 
     use super::*;
-    use crate::lists::LISTS;
 
-    fn work(name: &str) -> Vec<Work> {
-        let scenarios = all();
+    fn work(scenarios: &[Scenario], name: &str) -> Vec<Work> {
         let scenario = scenarios
             .iter()
             .find(|scenario| scenario.name.starts_with(name))
@@ -552,6 +592,8 @@ mod tests {
     #[test]
     fn plain_work() {
         use Work::{Copy, Fill, Scan};
+        let scenarios = all();
+        let work = |name: &str| work(&scenarios, name);
         assert_eq!(work("serial"), [Copy(12), Copy(256)].repeat(16));
         assert_eq!(work("fill"), [Copy(256); 32]);
         assert_eq!(work("read 4,096 bytes, none"), [Copy(4_096); 16]);
@@ -578,6 +620,17 @@ mod tests {
         let zeros = work("trip list: write, zeros");
         assert_eq!(zeros.len(), LISTS);
         assert!(zeros.iter().all(|&work| work != Copy(4_096)));
+        for (name, in_both) in [("minutes", false), ("one after", false), ("half", true)] {
+            let work = work(&format!("trip lists: join, {name}"));
+            assert_eq!(work.len(), 3 * LISTS);
+            for work in work.chunks(3) {
+                let [Scan(first), Scan(second), Copy(4_096)] = *work else {
+                    panic!("{name}: {work:?}");
+                };
+                assert_eq!(first + second > 4_096, in_both, "{name}");
+                assert!(first + second >= 4_096, "{name}");
+            }
+        }
 
         // a file with bytes, and seven without
         let mut run = Run::new(&[]);
@@ -625,7 +678,8 @@ mod tests {
     #[test]
     fn steps_on_trip_lists() {
         let list = b"5,1200,ANNA\n017,0,B7\n";
-        let mut run = Run::new(&[list.to_vec()]);
+        let (other, bad) = (b"6,1,C\n", b"7,1,C\n6,1,C\n");
+        let mut run = Run::new(&[list.to_vec(), other.to_vec(), bad.to_vec()]);
         let mut step = |step| (run.step::<Reference>(step), run.trip);
         let last = [17, 0, 18, 2];
         let sum = 5 + 1_200 + 7 + 4 + 17 + 18 + 2;
@@ -637,6 +691,18 @@ mod tests {
         assert_eq!(step(Step::ReadTrip { list: 0, place: 1 }), (2, last));
         assert_eq!(step(Step::WriteTrips { list: 0 }), (20, last));
         assert_eq!(run.buffer[..21], *b"5,1200,ANNA\n17,0,B7\n\0");
+        let join = Step::JoinTrips {
+            first: 0,
+            second: 1,
+        };
+        assert_eq!(run.step::<Reference>(join), 26);
+        assert_eq!(run.buffer[..27], *b"5,1200,ANNA\n6,1,C\n17,0,B7\n\0");
+        let refused = Step::JoinTrips {
+            first: 2,
+            second: 1,
+        };
+        assert_eq!(run.step::<Reference>(refused), 11 << 16);
+        assert_eq!(run.work::<Reference>(refused), []);
 
         run.lists[0][13] = b'x';
         assert_eq!(run.step::<Reference>(Step::WalkTrips { list: 0 }), 10 << 16);
