@@ -136,6 +136,10 @@ calls! {
     /// `boxstore_write_trips`: writes a trip list in its one spelling into the
     /// front of the buffer, and counts the bytes.
     fn write_trips(list: &[u8], buffer: &mut [u8]) -> u32 = boxstore_write_trips;
+
+    /// `boxstore_join_trips`: joins two trip lists into one, in its one spelling, in
+    /// the front of the buffer, and counts the bytes.
+    fn join_trips(first: &[u8], second: &[u8], buffer: &mut [u8]) -> u32 = boxstore_join_trips;
 }
 
 /// The part that a look names, of the media and the frames that it was given.

@@ -9,6 +9,8 @@ pub trait TripLists {
     fn next_trip(list: &[u8], at: usize, least: usize, trip: &mut [u32]) -> u32;
     /// Writes the one spelling of a list, and counts its bytes.
     fn write_trips(list: &[u8], buffer: &mut [u8]) -> u32;
+    /// Joins two lists into one, in its one spelling, and counts its bytes.
+    fn join_trips(first: &[u8], second: &[u8], buffer: &mut [u8]) -> u32;
 }
 
 /// Implements [`TripLists`] for a type by a module with a function for each
@@ -30,6 +32,10 @@ macro_rules! trip_lists_by {
             #[inline(always)]
             fn write_trips(list: &[u8], buffer: &mut [u8]) -> u32 {
                 $($module)::+::write_trips(list, buffer)
+            }
+            #[inline(always)]
+            fn join_trips(first: &[u8], second: &[u8], buffer: &mut [u8]) -> u32 {
+                $($module)::+::join_trips(first, second, buffer)
             }
         }
     };
