@@ -57,6 +57,11 @@
  *  10 TRIP FORM    the line lacks the form
  *  11 TRIP ORDER   its minute is not above that of the line before
  *
+ * and a join of two lists that are sound, the first of these that applies:
+ *
+ *  17 TRIP CONFLICT    a minute has other metres or another driver in the second list
+ *  18 TRIPS TOO LONG   the joined list is longer than 4,096 bytes
+ *
  * All refusals but CUT have count 0 and leave all memory as it came. CUT has the budget as its count: that many first media
  * writes were done, and the state is down, as after a loss of power at that moment.
  *
@@ -87,9 +92,9 @@ extern "C" {
 #endif
 
 /* The version of this interface. */
-#define BOXSTORE_VERSION "0.2.0"
+#define BOXSTORE_VERSION "0.3.0"
 #define BOXSTORE_VERSION_MAJOR 0
-#define BOXSTORE_VERSION_MINOR 2
+#define BOXSTORE_VERSION_MINOR 3
 #define BOXSTORE_VERSION_PATCH 0
 
 #define BOXSTORE_FILES 8
@@ -128,7 +133,9 @@ enum boxstore_answer_number {
     BOXSTORE_NO_ROOM = 8,
     BOXSTORE_CUT = 9,
     BOXSTORE_TRIP_FORM = 10,
-    BOXSTORE_TRIP_ORDER = 11
+    BOXSTORE_TRIP_ORDER = 11,
+    BOXSTORE_TRIP_CONFLICT = 17,
+    BOXSTORE_TRIPS_TOO_LONG = 18
 };
 
 /* The number of an answer, and its count. */
@@ -150,6 +157,8 @@ static inline const char *boxstore_name(uint32_t answer)
     case BOXSTORE_CUT: return "CUT";
     case BOXSTORE_TRIP_FORM: return "TRIP FORM";
     case BOXSTORE_TRIP_ORDER: return "TRIP ORDER";
+    case BOXSTORE_TRIP_CONFLICT: return "TRIP CONFLICT";
+    case BOXSTORE_TRIPS_TOO_LONG: return "TRIPS TOO LONG";
     default: return "unknown";
     }
 }
@@ -167,6 +176,8 @@ static inline const char *boxstore_meaning(uint32_t answer)
     case BOXSTORE_CUT: return "the budget was below the media writes needed; the device is down";
     case BOXSTORE_TRIP_FORM: return "a line of the trip list lacks the form minute,metres,driver";
     case BOXSTORE_TRIP_ORDER: return "the minute of a trip is not above that of the line before";
+    case BOXSTORE_TRIP_CONFLICT: return "the lists have trips of the same minute that differ in metres or driver";
+    case BOXSTORE_TRIPS_TOO_LONG: return "the joined list is longer than 4,096 bytes";
     default: return "no call gives this answer";
     }
 }
@@ -273,6 +284,14 @@ uint32_t boxstore_next_trip(const uint8_t *list, size_t list_len, size_t at, siz
  * bytes. SHAPE where the buffer has not 4,096 bytes, else refused as read trip is. The buffer may not be the list itself. Takes
  * about 4 KB of stack, for the spelled list. */
 uint32_t boxstore_write_trips(const uint8_t *list, size_t list_len, uint8_t *buffer, size_t buffer_len);
+
+/* Join trips: makes one list of two, as of a van whose box was exchanged: all their trips by rising minute, one that both have
+ * once, spelled and counted as write trips does. Which list comes first makes no difference to what is written. SHAPE where the
+ * buffer has not 4,096 bytes; then the first list is refused as read trip is, then the second; then TRIP CONFLICT where a minute
+ * has other metres or another driver in the second list; then TRIPS TOO LONG where the joined list has more than 4,096 bytes. The
+ * buffer may overlap neither list; the two may be the same memory. Takes about 4 KB of stack, for the joined list. */
+uint32_t boxstore_join_trips(const uint8_t *first, size_t first_len, const uint8_t *second, size_t second_len,
+                             uint8_t *buffer, size_t buffer_len);
 
 /* The memory of one store. All zeros, as a static one begins, it is down and its files are empty. */
 struct boxstore {
@@ -411,6 +430,13 @@ static inline uint32_t box_next_trip(struct box_trips *trips, struct box_trip *t
 static inline uint32_t box_write_trips(const void *list, size_t list_len, void *buffer)
 {
     return boxstore_write_trips((const uint8_t *)list, list_len, (uint8_t *)buffer, BOXSTORE_LIST_BYTES);
+}
+
+/* Join trips: as boxstore_join_trips, into a buffer of BOXSTORE_LIST_BYTES. */
+static inline uint32_t box_join_trips(const void *first, size_t first_len, const void *second, size_t second_len, void *buffer)
+{
+    return boxstore_join_trips((const uint8_t *)first, first_len, (const uint8_t *)second, second_len,
+                               (uint8_t *)buffer, BOXSTORE_LIST_BYTES);
 }
 
 #ifdef __cplusplus

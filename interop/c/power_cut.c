@@ -248,29 +248,69 @@ static void trip_lists(void)
     expect("SHAPE: three numbers", boxstore_next_trip((const uint8_t *)list, length, 0, 0, numbers, 3), BOXSTORE_SHAPE, 0);
     expect("SHAPE: a buffer of 4,097 bytes",
            boxstore_write_trips((const uint8_t *)list, length, buffer, sizeof buffer), BOXSTORE_SHAPE, 0);
+    expect("SHAPE: a join into 4,095 bytes", boxstore_join_trips((const uint8_t *)list, length, (const uint8_t *)list, length,
+           buffer, BOXSTORE_LIST_BYTES - 1), BOXSTORE_SHAPE, 0);
     require("the buffer keeps its bytes", memcmp(buffer, "7,0,A", 5) == 0 && all(buffer + 25, sizeof buffer - 25, '.'));
+}
+
+/* Two lists that are joined. */
+static void joined_lists(void)
+{
+    static const char first[] = "7,0,A\n9,42,BOB7\n", second[] = "007,00,A\n8,1,C\n", joined[] = "7,0,A\n8,1,C\n9,42,BOB7\n";
+    static const char other[] = "8,1,C\n9,42,BOB8\n", bad[] = "9,0,b\n";
+    static uint8_t buffer[BOXSTORE_LIST_BYTES];
+    static char full[2][BOXSTORE_LIST_BYTES + 1];
+    const size_t first_len = sizeof first - 1, second_len = sizeof second - 1;
+    size_t half, line;
+
+    memset(buffer, '.', sizeof buffer);
+    expect("join", box_join_trips(first, first_len, second, second_len, buffer), BOXSTORE_DONE, sizeof joined - 1);
+    require("all trips by minute, that of both once", memcmp(buffer, joined, sizeof joined - 1) == 0);
+    require("the rest of the buffer keeps its bytes", all(buffer + sizeof joined - 1, sizeof buffer - sizeof joined + 1, '.'));
+    expect("join of a list with itself", box_join_trips(first, first_len, first, first_len, buffer), BOXSTORE_DONE, first_len);
+    expect("join of two that are empty", box_join_trips("", 0, "", 0, buffer), BOXSTORE_DONE, 0);
+
+    memset(buffer, '.', sizeof buffer);
+    expect("TRIP CONFLICT: minute 9 has two drivers", box_join_trips(first, first_len, other, sizeof other - 1, buffer),
+           BOXSTORE_TRIP_CONFLICT, 0);
+    expect("TRIP FORM: the second list", box_join_trips(first, first_len, bad, sizeof bad - 1, buffer), BOXSTORE_TRIP_FORM, 0);
+    expect("TRIP FORM: the first list before the second",
+           box_join_trips(bad, sizeof bad - 1, full[0], sizeof full[0], buffer), BOXSTORE_TRIP_FORM, 0);
+    expect("RANGE: 4,097 bytes", box_join_trips(full[0], sizeof full[0], bad, sizeof bad - 1, buffer), BOXSTORE_RANGE, 0);
+    /* 256 lines of 8 bytes each, of other minutes */
+    for (half = 0; half < 2; half++)
+        for (line = 0; line < 256; line++)
+            sprintf(full[half] + 8 * line, "%03u,0,A\n", (unsigned)(100 + 2 * line + half));
+    strcpy(full[1] + 2048, "999,0,A\n");
+    expect("TRIPS TOO LONG: 4,104 bytes", box_join_trips(full[0], 2048, full[1], 2056, buffer), BOXSTORE_TRIPS_TOO_LONG, 0);
+    require("the buffer keeps its bytes", all(buffer, sizeof buffer, '.'));
+    expect("join of 4,096 bytes", box_join_trips(full[0], 2048, full[1], 2048, buffer), BOXSTORE_DONE, BOXSTORE_LIST_BYTES);
+    require("the lists by turns", memcmp(buffer, "100,0,A\n101,0,A\n102,0,A\n", 24) == 0
+            && memcmp(buffer + BOXSTORE_LIST_BYTES - 8, "611,0,A\n", 8) == 0);
 }
 
 /* The name of each number, with the least and the greatest count. */
 static void names(void)
 {
     static const char *const expected[] = {"done", "unknown", "SHAPE", "MEDIA", "BOOKS", "DOWN", "NO FILE", "RANGE", "NO ROOM",
-                                           "CUT", "TRIP FORM", "TRIP ORDER", "unknown"};
+                                           "CUT", "TRIP FORM", "TRIP ORDER", "unknown", "unknown", "unknown", "unknown", "unknown",
+                                           "TRIP CONFLICT", "TRIPS TOO LONG", "unknown"};
     int named = 1, meant = 1;
     unsigned number;
     char version[40];
 
-    for (number = 0; number <= 12; number++) {
+    for (number = 0; number <= 19; number++) {
         uint32_t least = number * BOXSTORE_REFUSED, greatest = least + 65535;
         int unknown = strcmp(boxstore_meaning(least), "no call gives this answer") == 0;
+        int free_number = number == 1 || (number >= 12 && number <= 16) || number == 19;
         printf("%u is %s: %s\n", number, boxstore_name(least), boxstore_meaning(least));
         named = named && strcmp(boxstore_name(least), expected[number]) == 0
                 && strcmp(boxstore_name(greatest), expected[number]) == 0;
-        meant = meant && unknown == (number == 1 || number == 12)
+        meant = meant && unknown == free_number
                 && strcmp(boxstore_meaning(greatest), boxstore_meaning(least)) == 0;
     }
     require("each number has its name", named && strcmp(boxstore_name(UINT32_MAX), "unknown") == 0);
-    require("1 and 12 alone mean nothing", meant);
+    require("1, 12 to 16 and 19 alone mean nothing", meant);
 
     sprintf(version, "%d.%d.%d", BOXSTORE_VERSION_MAJOR, BOXSTORE_VERSION_MINOR, BOXSTORE_VERSION_PATCH);
     require("the version " BOXSTORE_VERSION " is the same in numbers", strcmp(version, BOXSTORE_VERSION) == 0);
@@ -284,6 +324,7 @@ int main(void)
     refusals();
     media_writes();
     trip_lists();
+    joined_lists();
     names();
     puts("power_cut: all as expected");
     return 0;

@@ -4,7 +4,7 @@ use core::fmt;
 
 /// Why a call was refused. All but [`Error::Cut`] leave everything as it was.
 /// [`Device`](crate::Device) gives SHAPE from `from_media` alone, and BOOKS never;
-/// the calls on trip lists give RANGE and the last two.
+/// the calls on trip lists give RANGE and those from TRIP FORM on.
 ///
 /// `Display` and `Debug` print the same words, so that a `main` which returns
 /// an error tells what it means.
@@ -40,10 +40,15 @@ pub enum Error {
     /// TRIP ORDER (11): the minute of a trip is not above that of the line
     /// before.
     TripOrder,
+    /// TRIP CONFLICT (17): the lists have trips of the same minute that differ in
+    /// metres or driver.
+    TripConflict,
+    /// TRIPS TOO LONG (18): the joined list is longer than 4,096 bytes.
+    TripsTooLong,
 }
 
 impl Error {
-    /// The number of the refusal, 2 to 11.
+    /// The number of the refusal: 2 to 11, 17 or 18.
     pub fn number(self) -> u32 {
         match self {
             Error::Shape => 2,
@@ -56,6 +61,8 @@ impl Error {
             Error::Cut { .. } => 9,
             Error::TripForm => 10,
             Error::TripOrder => 11,
+            Error::TripConflict => 17,
+            Error::TripsTooLong => 18,
         }
     }
 
@@ -65,7 +72,8 @@ impl Error {
     ///
     /// # Panics
     ///
-    /// Where the number is none of 0 and 2 to 11. No call gives such an answer.
+    /// Where the number is none of 0, 2 to 11, 17 and 18. No call gives such an
+    /// answer.
     pub fn decode(answer: u32) -> Result<usize, Error> {
         let count = (answer & 65_535) as usize;
         Err(match answer >> 16 {
@@ -80,6 +88,8 @@ impl Error {
             9 => Error::Cut { done: count },
             10 => Error::TripForm,
             11 => Error::TripOrder,
+            17 => Error::TripConflict,
+            18 => Error::TripsTooLong,
             number => panic!("no answer of the store has the number {number}"),
         })
     }
@@ -117,6 +127,14 @@ impl fmt::Display for Error {
                 f,
                 "TRIP ORDER (11): the minute of a trip is not above that of the line before"
             ),
+            Error::TripConflict => write!(
+                f,
+                "TRIP CONFLICT (17): the lists have trips of the same minute that differ in metres or driver"
+            ),
+            Error::TripsTooLong => write!(
+                f,
+                "TRIPS TOO LONG (18): the joined list is longer than 4,096 bytes"
+            ),
         }
     }
 }
@@ -136,7 +154,7 @@ mod tests {
     use std::format;
     use std::string::ToString;
 
-    const ALL: [(Error, &str); 12] = [
+    const ALL: [(Error, &str); 14] = [
         (
             Error::Shape,
             "SHAPE (2): lent memory has another length than the call needs",
@@ -172,6 +190,14 @@ mod tests {
         (
             Error::TripOrder,
             "TRIP ORDER (11): the minute of a trip is not above that of the line before",
+        ),
+        (
+            Error::TripConflict,
+            "TRIP CONFLICT (17): the lists have trips of the same minute that differ in metres or driver",
+        ),
+        (
+            Error::TripsTooLong,
+            "TRIPS TOO LONG (18): the joined list is longer than 4,096 bytes",
         ),
     ];
 
@@ -209,7 +235,7 @@ mod tests {
 
     #[test]
     fn answers_that_no_call_gives() {
-        for number in [1, 12, 65_535] {
+        for number in [1, 12, 16, 19, 65_535] {
             let caught = std::panic::catch_unwind(|| Error::decode(65_536 * number));
             assert!(caught.is_err(), "{number}");
         }

@@ -49,7 +49,8 @@
 //! has 1 to 10 digits, leading zeros allowed, and fits a `u32`; a driver is 1 to
 //! 16 of A to Z and 0 to 9; the minutes rise from line to line. [`trips`] goes
 //! through a list, [`read_trip`] takes one trip of it, and [`write_trips`] gives
-//! it the spelling that all lists of the same trips share.
+//! it the spelling that all lists of the same trips share. [`join_trips`] makes
+//! one list of two.
 //!
 //! # Without `std`
 //!
@@ -81,7 +82,7 @@ mod trips;
 
 pub use device::Device;
 pub use error::Error;
-pub use trips::{read_trip, trips, write_trips, Trip, Trips};
+pub use trips::{join_trips, read_trip, trips, write_trips, Trip, Trips};
 
 #[doc(inline)]
 pub use layout::{

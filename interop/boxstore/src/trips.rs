@@ -130,3 +130,40 @@ pub fn write_trips<'a>(list: &[u8], buffer: &'a mut [u8; LIST_BYTES]) -> Result<
     let count = Error::decode(raw::write_trips(list, buffer))?;
     Ok(&buffer[..count])
 }
+
+/// Joins two lists into one, in the order of the minutes and in its one spelling,
+/// and answers the part of the buffer that has it; the rest keeps its bytes. A
+/// trip that both lists have is there once.
+///
+/// The first list is checked before the second. Then the join is refused with
+/// [`Error::TripConflict`] where a minute has other metres or another driver in
+/// the second list, else with [`Error::TripsTooLong`] where the joined list is
+/// longer than [`LIST_BYTES`].
+///
+/// The call takes about 4 KB of stack, for the joined list.
+///
+/// ```
+/// use boxstore::{join_trips, Error, LIST_BYTES};
+///
+/// # fn main() -> Result<(), Error> {
+/// let mut buffer = [0; LIST_BYTES];
+/// let old_box = b"29001234,12400,ANNA\n29001301,800,B7\n";
+/// let new_box = b"29001301,0800,B7\n29001377,0,ANNA\n";
+/// assert_eq!(
+///     join_trips(old_box, new_box, &mut buffer)?,
+///     b"29001234,12400,ANNA\n29001301,800,B7\n29001377,0,ANNA\n"
+/// );
+///
+/// let other = join_trips(old_box, b"29001301,900,B7\n", &mut buffer);
+/// assert_eq!(other, Err(Error::TripConflict));
+/// # Ok(())
+/// # }
+/// ```
+pub fn join_trips<'a>(
+    first: &[u8],
+    second: &[u8],
+    buffer: &'a mut [u8; LIST_BYTES],
+) -> Result<&'a [u8], Error> {
+    let count = Error::decode(raw::join_trips(first, second, buffer))?;
+    Ok(&buffer[..count])
+}

@@ -73,8 +73,8 @@ fn the_constants() {
 #[test]
 fn the_answers() {
     let (numbers, names, meanings) = (numbers(), texts("boxstore_name"), texts("boxstore_meaning"));
-    assert_eq!(numbers.len(), 11);
-    assert_eq!((names.len(), meanings.len()), (11, 11));
+    assert_eq!(numbers.len(), 13);
+    assert_eq!((names.len(), meanings.len()), (13, 13));
     assert_eq!(numbers[0], ("DONE", 0));
     assert_eq!((names[0].0, meanings[0].0), ("DONE", "DONE"));
     for (i, &(answer, number)) in numbers.iter().enumerate().skip(1) {

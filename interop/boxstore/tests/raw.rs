@@ -240,4 +240,5 @@ fn empty_slices_everywhere() {
     assert_eq!(Error::decode(raw::read_trip(&[], 0, &mut [])), SHAPE);
     assert_eq!(Error::decode(raw::next_trip(&[], 0, 0, &mut [])), SHAPE);
     assert_eq!(Error::decode(raw::write_trips(&[], &mut [])), SHAPE);
+    assert_eq!(Error::decode(raw::join_trips(&[], &[], &mut [])), SHAPE);
 }

@@ -3,7 +3,8 @@
 use std::iter::FusedIterator;
 
 use boxstore::{
-    read_trip, trips, write_trips, Device, Error, Trip, LIST_BYTES, MOUNT_WRITES, SYNC_WRITES,
+    join_trips, read_trip, trips, write_trips, Device, Error, Trip, LIST_BYTES, MOUNT_WRITES,
+    SYNC_WRITES,
 };
 
 const LIST: &[u8] = b"5,1200,ANNA\n017,00,B7\n4294967295,4294967295,00A\n";
@@ -77,6 +78,8 @@ fn refusals() {
         assert_eq!(trips(list).err(), Some(error));
         let mut buffer = [b'.'; LIST_BYTES];
         assert_eq!(write_trips(list, &mut buffer), Err(error));
+        assert_eq!(join_trips(list, LIST, &mut buffer), Err(error));
+        assert_eq!(join_trips(LIST, list, &mut buffer), Err(error));
         assert_eq!(buffer, [b'.'; LIST_BYTES]);
     }
 }
@@ -90,6 +93,53 @@ fn one_spelling() {
     assert!(trips(spelling).unwrap().eq(trips(LIST).unwrap()));
     assert_eq!(write_trips(spelling, &mut buffer), Ok(&spelling[..]));
     assert_eq!(write_trips(b"", &mut buffer), Ok(&b""[..]));
+}
+
+#[test]
+fn two_lists_become_one() {
+    let mut buffer = [b'.'; LIST_BYTES];
+    let other = b"05,1200,ANNA\n6,1,C\n";
+    let joined = b"5,1200,ANNA\n6,1,C\n17,0,B7\n4294967295,4294967295,00A\n";
+    assert_eq!(join_trips(LIST, other, &mut buffer), Ok(&joined[..]));
+    assert!(buffer[joined.len()..].iter().all(|&byte| byte == b'.'));
+    assert_eq!(join_trips(other, LIST, &mut buffer), Ok(&joined[..]));
+    assert_eq!(join_trips(joined, joined, &mut buffer), Ok(&joined[..]));
+    assert_eq!(join_trips(b"", joined, &mut buffer), Ok(&joined[..]));
+    assert_eq!(join_trips(b"", b"", &mut buffer), Ok(&b""[..]));
+}
+
+/// Lines of 8 bytes: as many as there are minutes.
+fn lines(minutes: std::ops::Range<usize>) -> Vec<u8> {
+    let line = |minute| format!("{minute},0,A\n").into_bytes();
+    minutes.flat_map(line).collect()
+}
+
+#[test]
+fn joins_that_are_refused() {
+    let mut buffer = [b'.'; LIST_BYTES];
+    let (one, two, more) = (lines(100..356), lines(356..612), lines(356..613));
+    for (second, error) in [
+        (&more[..], Error::TripsTooLong),
+        // a conflict comes first, and a bad line before it
+        (&[b"100,0,B\n", &*more].concat(), Error::TripConflict),
+        (&[b"100,1,A\n", &*more].concat(), Error::TripConflict),
+        (
+            &[b"100,1,A\n", &*more, b"1,1,A\n"].concat(),
+            Error::TripOrder,
+        ),
+        (&[b"100,1,A\n", &*more, b"x"].concat(), Error::TripForm),
+    ] {
+        assert_eq!(join_trips(&one, second, &mut buffer), Err(error));
+        assert_eq!(join_trips(second, &one, &mut buffer), Err(error));
+        assert_eq!(buffer, [b'.'; LIST_BYTES]);
+    }
+    let full = [one.clone(), two.clone()].concat();
+    assert_eq!(full.len(), LIST_BYTES);
+    assert_eq!(join_trips(&two, &one, &mut buffer), Ok(&full[..]));
+    // the first list is checked before the second
+    let long = [b'x'; LIST_BYTES + 1];
+    assert_eq!(join_trips(b"x", &long, &mut buffer), Err(Error::TripForm));
+    assert_eq!(join_trips(&long, b"x", &mut buffer), Err(Error::Range));
 }
 
 /// From a file of the store and back.

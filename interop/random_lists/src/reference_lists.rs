@@ -56,6 +56,10 @@ impl TripLists for Reference {
     fn write_trips(list: &[u8], buffer: &mut [u8]) -> u32 {
         word(trips::write_trips(list, buffer))
     }
+
+    fn join_trips(first: &[u8], second: &[u8], buffer: &mut [u8]) -> u32 {
+        word(trips::join_trips(first, second, buffer))
+    }
 }
 
 #[cfg(test)]

@@ -43,11 +43,15 @@ pub enum Refusal {
     TripForm,
     /// TRIP ORDER: the minute of a trip is not above the one before.
     TripOrder,
+    /// TRIP CONFLICT: two lists have different trips of the same minute.
+    TripConflict,
+    /// TRIPS TOO LONG: two lists joined have more than 4,096 bytes.
+    TripsTooLong,
 }
 
 impl Refusal {
-    /// The number of the refusal, 1 to 9 in document 01, 10 and 11 in document
-    /// 02.
+    /// The number of the refusal, 1 to 9 in document 01, those from 10 on in
+    /// document 02.
     pub fn number(self) -> u8 {
         match self {
             Refusal::Line => 1,
@@ -61,6 +65,8 @@ impl Refusal {
             Refusal::Cut(_) => 9,
             Refusal::TripForm => 10,
             Refusal::TripOrder => 11,
+            Refusal::TripConflict => 17,
+            Refusal::TripsTooLong => 18,
         }
     }
 }

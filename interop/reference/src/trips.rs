@@ -1,8 +1,10 @@
 //! Trip lists: lines `minute,metres,driver`, each ended by LF.
 
+use std::collections::BTreeMap;
+
 use crate::store::{Answer, Refusal};
 
-/// Greatest length of a list in bytes, and of what the writer writes.
+/// Greatest length of a list in bytes, and of what is written.
 pub const LIST_MAX: usize = 4096;
 /// Most digits of a number, leading zeros included.
 pub const DIGITS_MAX: usize = 10;
@@ -127,19 +129,54 @@ pub fn spelling(trips: &[Trip<'_>]) -> Vec<u8> {
     bytes
 }
 
-/// The writer: puts the one spelling of a list into the front of `buffer`, which
-/// has 4,096 bytes, else SHAPE, and answers how many bytes that are. Refused as
-/// the reader is, and then nothing is written.
-pub fn write_trips(list: &[u8], buffer: &mut [u8]) -> Answer {
+/// Puts the bytes that are spelled into the front of `buffer`, which has 4,096
+/// bytes, else SHAPE, and answers how many bytes that are. Refused, nothing is
+/// written.
+fn put(buffer: &mut [u8], spelled: impl FnOnce() -> Result<Vec<u8>, Refusal>) -> Answer {
     if buffer.len() != LIST_MAX {
         return Answer::Refused(Refusal::Shape);
     }
-    match trips(list) {
-        Ok(trips) => {
-            let bytes = spelling(&trips);
+    match spelled() {
+        Ok(bytes) => {
             buffer[..bytes.len()].copy_from_slice(&bytes);
             Answer::Done(bytes.len())
         }
         Err(refusal) => Answer::Refused(refusal),
     }
+}
+
+/// The writer: puts the one spelling of a list into the front of `buffer`.
+/// Refused as the reader is, after SHAPE.
+pub fn write_trips(list: &[u8], buffer: &mut [u8]) -> Answer {
+    put(buffer, || Ok(spelling(&trips(list)?)))
+}
+
+// ---------------------------------------------------------------------------
+// Two lists
+
+/// The trips of two lists in the order of their minutes; one that is in both is
+/// there once. Refused as the reader is of the first list, then of the second,
+/// then TRIP CONFLICT where a minute has two trips that differ.
+pub fn joined<'a>(first: &'a [u8], second: &'a [u8]) -> Result<Vec<Trip<'a>>, Refusal> {
+    let (first, second) = (trips(first)?, trips(second)?);
+    let mut by_minute = BTreeMap::new();
+    for trip in first.into_iter().chain(second) {
+        let other = by_minute.insert(trip.minute, trip);
+        if other.is_some_and(|other| other != trip) {
+            return Err(Refusal::TripConflict);
+        }
+    }
+    Ok(by_minute.into_values().collect())
+}
+
+/// The join: puts the one spelling of the trips of two lists into the front of
+/// `buffer`. TRIPS TOO LONG, after all other refusals, where it has no room.
+pub fn join_trips(first: &[u8], second: &[u8], buffer: &mut [u8]) -> Answer {
+    put(buffer, || {
+        let bytes = spelling(&joined(first, second)?);
+        match bytes.len() {
+            0..=LIST_MAX => Ok(bytes),
+            _ => Err(Refusal::TripsTooLong),
+        }
+    })
 }

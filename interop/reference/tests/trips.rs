@@ -1,8 +1,10 @@
 //! Trip lists, worked by hand.
 
-use reference::store::Answer::{Done, Refused};
-use reference::store::Refusal::{self, Range, Shape, TripForm, TripOrder};
-use reference::trips::{next_trip, read_trip, spelling, trips, write_trips, Trip};
+use reference::store::Answer::{self, Done, Refused};
+use reference::store::Refusal::{
+    self, Range, Shape, TripConflict, TripForm, TripOrder, TripsTooLong,
+};
+use reference::trips::{join_trips, next_trip, read_trip, spelling, trips, write_trips, Trip};
 
 fn trip(minute: u32, metres: u32, driver: &str) -> Trip<'_> {
     Trip {
@@ -12,11 +14,11 @@ fn trip(minute: u32, metres: u32, driver: &str) -> Trip<'_> {
     }
 }
 
-/// What the writer makes of a list. The rest of its buffer keeps its bytes, and
-/// all of it where the list is refused.
-fn written(list: &[u8]) -> Result<Vec<u8>, Refusal> {
+/// What a call writes. The rest of its buffer keeps its bytes, and all of it
+/// where the call is refused.
+fn filled(call: impl Fn(&mut [u8]) -> Answer) -> Result<Vec<u8>, Refusal> {
     let mut buffer = [0xaa; 4096];
-    match write_trips(list, &mut buffer) {
+    match call(&mut buffer) {
         Done(count) => {
             assert!(buffer[count..].iter().all(|&byte| byte == 0xaa));
             Ok(buffer[..count].to_vec())
@@ -26,6 +28,23 @@ fn written(list: &[u8]) -> Result<Vec<u8>, Refusal> {
             Err(refusal)
         }
     }
+}
+
+/// What the writer makes of a list.
+fn written(list: &[u8]) -> Result<Vec<u8>, Refusal> {
+    filled(|buffer| write_trips(list, buffer))
+}
+
+/// What the join makes of two lists.
+fn joined(first: impl AsRef<[u8]>, second: impl AsRef<[u8]>) -> Result<Vec<u8>, Refusal> {
+    filled(|buffer| join_trips(first.as_ref(), second.as_ref(), buffer))
+}
+
+/// The two lists are joined so, whichever comes first.
+fn join_to(one: impl AsRef<[u8]>, two: impl AsRef<[u8]>, expected: Result<&str, Refusal>) {
+    let expected = expected.map(|text| text.as_bytes().to_vec());
+    assert_eq!(joined(&one, &two), expected);
+    assert_eq!(joined(&two, &one), expected);
 }
 
 /// The list has these trips, and the writer spells it so.
@@ -53,9 +72,16 @@ fn is_refused(list: impl AsRef<[u8]>, refusal: Refusal) {
 
 #[test]
 fn the_numbers_of_the_refusals() {
-    assert_eq!((TripForm.number(), TripOrder.number()), (10, 11));
-    assert_eq!(Refused(TripForm).count(), 0);
-    assert_eq!(Refused(TripOrder).count(), 0);
+    let refusals = [
+        (TripForm, 10),
+        (TripOrder, 11),
+        (TripConflict, 17),
+        (TripsTooLong, 18),
+    ];
+    for (refusal, number) in refusals {
+        assert_eq!(refusal.number(), number);
+        assert_eq!(Refused(refusal).count(), 0);
+    }
 }
 
 #[test]
@@ -218,6 +244,10 @@ fn a_buffer_of_another_length() {
         for length in [0, 1, 6, 4095, 4097] {
             let mut buffer = vec![7; length];
             assert_eq!(write_trips(list, &mut buffer), Refused(Shape));
+            for other in [&b"1,2,A\n"[..], b"", list] {
+                assert_eq!(join_trips(list, other, &mut buffer), Refused(Shape));
+                assert_eq!(join_trips(other, list, &mut buffer), Refused(Shape));
+            }
             assert_eq!(buffer, vec![7; length]);
         }
     }
@@ -255,4 +285,220 @@ fn the_cursor_anywhere() {
     assert_eq!(next_trip(list, 22, 0), Err(TripForm));
     assert_eq!(next_trip(list, 26, 0), Err(TripForm));
     assert_eq!(next_trip(list, 27, 0), Ok(None));
+}
+
+#[test]
+fn two_lists_in_minute_order() {
+    // one after the other
+    join_to(
+        "5,1200,ANNA\n17,0,B7\n",
+        "30,88,ANNA\n",
+        Ok("5,1200,ANNA\n17,0,B7\n30,88,ANNA\n"),
+    );
+    // by turns
+    join_to(
+        "1,1,A\n3,3,C\n5,5,E\n",
+        "2,2,B\n4,4,D\n6,6,F\n",
+        Ok("1,1,A\n2,2,B\n3,3,C\n4,4,D\n5,5,E\n6,6,F\n"),
+    );
+    // one amid the other; by value, not as text
+    join_to(
+        "9,1,A\n010,1,A\n",
+        "2,1,A\n100,1,A\n",
+        Ok("2,1,A\n9,1,A\n10,1,A\n100,1,A\n"),
+    );
+    join_to(
+        "0,0,0\n4294967295,0,0\n",
+        "4294967294,4294967295,A\n",
+        Ok("0,0,0\n4294967294,4294967295,A\n4294967295,0,0\n"),
+    );
+}
+
+#[test]
+fn a_join_has_one_spelling() {
+    join_to(
+        "0000000005,01200,0ANNA\n",
+        "06,000,B7\n",
+        Ok("5,1200,0ANNA\n6,0,B7\n"),
+    );
+}
+
+#[test]
+fn a_trip_of_both_lists_is_there_once() {
+    let list = "5,1200,ANNA\n17,0,B7\n30,88,ANNA\n";
+    join_to(list, list, Ok(list));
+    // however its numbers are spelled
+    join_to(
+        "005,1200,ANNA\n17,0,B7\n",
+        "5,0000001200,ANNA\n0017,00,B7\n",
+        Ok("5,1200,ANNA\n17,0,B7\n"),
+    );
+    // some of both, at the start, amid and at the end
+    join_to(
+        "1,1,A\n2,2,B\n",
+        "1,1,A\n3,3,C\n",
+        Ok("1,1,A\n2,2,B\n3,3,C\n"),
+    );
+    join_to(
+        "1,1,A\n2,2,B\n4,4,D\n",
+        "02,2,B\n",
+        Ok("1,1,A\n2,2,B\n4,4,D\n"),
+    );
+    join_to(
+        "1,1,A\n9,9,Z\n",
+        "2,2,B\n9,9,Z\n",
+        Ok("1,1,A\n2,2,B\n9,9,Z\n"),
+    );
+}
+
+#[test]
+fn joins_with_the_empty_list() {
+    join_to("", "", Ok(""));
+    join_to("05,1,ANNA\n", "", Ok("5,1,ANNA\n"));
+    for length in [4095, 4096] {
+        let list = list_of(length);
+        assert_eq!(joined(&list, ""), Ok(list.clone()));
+        assert_eq!(joined("", &list), Ok(list));
+    }
+}
+
+#[test]
+fn trips_of_one_minute_that_differ() {
+    for (one, two) in [
+        ("5,1,A\n", "5,2,A\n"),
+        ("5,1,A\n", "5,1,B\n"),
+        ("5,1,A\n", "5,2,B\n"),
+        // a digit more, and characters that are no leading zeros
+        ("5,1,A\n", "5,10,A\n"),
+        ("5,1,A\n", "5,1,AA\n"),
+        ("5,1,A\n", "005,01,0A\n"),
+        ("5,1,0\n", "5,1,00\n"),
+        ("5,0,A\n", "5,4294967295,A\n"),
+        // the first, a middle and the last trip of both
+        ("1,1,A\n2,2,B\n3,3,C\n", "1,1,B\n2,2,B\n3,3,C\n"),
+        ("1,1,A\n2,2,B\n3,3,C\n", "1,1,A\n2,3,B\n3,3,C\n"),
+        ("1,1,A\n2,2,B\n3,3,C\n", "1,1,A\n2,2,B\n3,3,D\n"),
+        // not side by side
+        ("1,1,A\n2,2,B\n9,3,C\n", "7,1,A\n8,2,B\n9,3,D\n"),
+        ("9,3,C\n10,1,A\n", "7,1,A\n8,2,B\n9,3,D\n"),
+    ] {
+        join_to(one, two, Err(TripConflict));
+    }
+    // swapped fields of neighbouring minutes do not meet
+    join_to("5,1,A\n", "6,2,A\n", Ok("5,1,A\n6,2,A\n"));
+}
+
+/// Lists of this length each, joined of twice that: lines of 8 bytes, of other
+/// minutes.
+fn two_lists_of(length: usize) -> [Vec<u8>; 2] {
+    let list = |start: usize| -> Vec<u8> {
+        (start..start + length / 8)
+            .flat_map(|minute| format!("{minute},0,A\n").into_bytes())
+            .collect()
+    };
+    let lists = [list(100), list(550)];
+    assert_eq!(lists.each_ref().map(Vec::len), [length; 2]);
+    lists
+}
+
+#[test]
+fn joins_of_4096_bytes_and_more() {
+    let [one, two] = two_lists_of(2_048);
+    for lists in [[&one, &two], [&two, &one]] {
+        assert_eq!(joined(lists[0], lists[1]), Ok([&*one, &*two].concat()));
+    }
+    // a byte more, at the end of either
+    let longer = |list: &[u8]| [&list[..list.len() - 1], b"A\n"].concat();
+    join_to(longer(&one), &two, Err(TripsTooLong));
+    join_to(&one, longer(&two), Err(TripsTooLong));
+    // a list that has no room for one trip more, or for one digit more
+    let full = list_of(4_096);
+    join_to(&full, "0,0,0\n", Err(TripsTooLong));
+    assert_eq!(joined(&full, "0100,00,A\n"), Ok(full));
+    // far more
+    let [one, two] = two_lists_of(3_200);
+    join_to(&one, &two, Err(TripsTooLong));
+}
+
+/// It is the joined list whose length counts, in its one spelling.
+#[test]
+fn long_lists_may_join() {
+    // all but one trip in both
+    let list = list_of(4_080);
+    let other = [b"1,1,A\n", &list[8..]].concat();
+    let expected = [b"1,1,A\n", &*list].concat();
+    join_to(&list, &other, Ok(std::str::from_utf8(&expected).unwrap()));
+    // more bytes than 4,096 by their zeros
+    let zeros = |start: usize| -> String {
+        (start..start + 150)
+            .map(|minute| format!("{minute:010},{:010},A\n", 0))
+            .collect()
+    };
+    let short = |start: usize| -> String {
+        (start..start + 150)
+            .map(|minute| format!("{minute},0,A\n"))
+            .collect()
+    };
+    assert_eq!(zeros(100).len(), 3_600);
+    join_to(zeros(100), zeros(300), Ok(&(short(100) + &short(300))));
+}
+
+#[test]
+fn the_order_of_the_refusals_of_a_join() {
+    let long = [b'x'; 4_097];
+    let (form, order) = ("5,1,a\n", "5,1,A\n5,1,A\n");
+    let refused = |first: &[u8], second: &[u8], refusal| {
+        assert_eq!(joined(first, second), Err(refusal));
+    };
+    // the first list before the second
+    for (first, second, refusal) in [
+        (form.as_bytes(), order.as_bytes(), TripForm),
+        (order.as_bytes(), form.as_bytes(), TripOrder),
+        (form.as_bytes(), &long, TripForm),
+        (order.as_bytes(), &long, TripOrder),
+        (&long, form.as_bytes(), Range),
+        (&long, order.as_bytes(), Range),
+        (&long, &long, Range),
+    ] {
+        refused(first, second, refusal);
+    }
+    // a line late in the first list, before the length of the second
+    let late = [&list_of(4_000), form.as_bytes()].concat();
+    refused(&late, &long, TripForm);
+    let late = [&list_of(4_000), &b"999,1,A\n"[..]].concat();
+    refused(&late, &long, TripOrder);
+
+    // a list that is refused, before a conflict with what is sound of it
+    for (bad, refusal) in [
+        ("1,1,A\n2,2,B\n3,3,c\n", TripForm),
+        ("1,1,A\n2,2,B\n2,2,B\n", TripOrder),
+        ("1,1,A\n2,2,B", TripForm),
+    ] {
+        join_to("1,9,A\n2,2,B\n", bad, Err(refusal));
+        join_to("1,1,A\n2,9,B\n7,7,G\n", bad, Err(refusal));
+    }
+    join_to(
+        "1,9,A\n",
+        [b"1,1,A\n", &[b'x'; 4_091][..]].concat(),
+        Err(Range),
+    );
+
+    // a list that is refused, before a join that is too long
+    let [one, two] = two_lists_of(3_200);
+    for (tail, refusal) in [("999,0,a\n", TripForm), ("99,0,A\n", TripOrder)] {
+        join_to(&one, [&*two, tail.as_bytes()].concat(), Err(refusal));
+        join_to([&*one, tail.as_bytes()].concat(), &two, Err(refusal));
+    }
+
+    // a conflict before a join that is too long, wherever it is
+    for minute in [100, 300, 499] {
+        let other = format!("{minute},1,A\n").into_bytes();
+        join_to(&one, [&*other, &*two].concat(), Err(TripConflict));
+    }
+    let last = |metres| format!("999,{metres},A\n").into_bytes();
+    join_to(
+        [&*one, &*last(0)].concat(),
+        [&*two, &*last(1)].concat(),
+        Err(TripConflict),
+    );
 }
