@@ -31,8 +31,9 @@ use Rattle.trip_list.proofs.Stepping.{step-line, step-refused, line-inside, min
 use Rattle.trip_list.proofs.Walking.{spell-join, line-before, driver-part}
 use Rattle.trip_join.specs.Join.{sameBytes, sameRest, agree, join, joinedTrips, joinedText}
 use Rattle.trip_join.proofs.Laws.{later, raised, join-first, join-second, join-both, agree-first, agree-second, agree-both}
+use Rattle.trip_writer.specs.declared.Place as place
 use Rattle.trip_writer.specs.declared.Stage as stage
-use Rattle.trip_writer.specs.Joining.{noMinute, Trips, from, Headed, HeadAt, Spelt, Joining}
+use Rattle.trip_writer.specs.Joining.{noMinute, Trips, from, Headed, HeadAt, Joined, Joining, asFirst, asSecond, Placed, Spelt}
 use Rattle.trip_writer.proofs.Pieces.{spelled-shorter}
 
 -- ---- the next line
@@ -163,10 +164,10 @@ module _ (x : List ℕ) (i : ℕ) (a : line.Line) (p : LineAt x i a) (y : List �
 
 -- ---- one trip more
 
-spelt-on : (x y xs ys : List ℕ) (s r : stage.Stage) (ts us vs ws : List Trip) (t : Trip) → Spelt x y xs s ts us → join ts us ≡ t ∷ join vs ws
+joined-on : (x y xs ys : List ℕ) (s r : stage.Stage) (ts us vs ws : List Trip) (t : Trip) → Joined x y xs s ts us → join ts us ≡ t ∷ join vs ws
     → s .agree && agree ts us ≡ r .agree && agree vs ws → r .end ≡ s .end + length (spellTrip t)
-    → (r .end ≤ greatestList → take (r .end) ys ≡ take (s .end) xs ++ spellTrip t) → Spelt x y ys r vs ws
-spelt-on x y xs ys s r ts us vs ws t p ej ea en el =
+    → (r .end ≤ greatestList → take (r .end) ys ≡ take (s .end) xs ++ spellTrip t) → Joined x y ys r vs ws
+joined-on x y xs ys s r ts us vs ws t p ej ea en el =
     let on : spell (p .passed ++ (t ∷ [])) ≡ spell (p .passed) ++ spellTrip t =
     spell-join (p .passed) (t ∷ []) ∙ ap (λ (l : List ℕ). spell (p .passed) ++ l) (append-nil (spellTrip t)) in
     record {
@@ -194,7 +195,7 @@ joining-start x y xs a b da db hx hy hs = record {
   second = head-start y b db;
   shorter = omega arith;
   small = (hx, hy, hs);
-  spelt = λ tx ty. record { passed = []; joins = refl; agrees = refl; ends = refl; laid = λ _. refl };
+  joined = λ tx ty. record { passed = []; joins = refl; agrees = refl; ends = refl; laid = λ _. refl };
 }
 
 module _ (x y xs : List ℕ) (s : stage.Stage) (w : Joining x y xs s) (ys : List ℕ) (same : length ys ≡ length xs) (end : ℕ) where
@@ -217,13 +218,13 @@ module _ (x y xs : List ℕ) (s : stage.Stage) (w : Joining x y xs s) (ys : List
         second = w .second;
         shorter = omega (arith, spelled-shorter x (s .i) (s .a) l, w .shorter);
         small = (w .small .0, w .small .1, omega (arith, w .small .2));
-        spelt = λ tx ty.
+        joined = λ tx ty.
             let vs = tripsOf (from x (s .i + s .a .length) (s .a .minute + 1)) in
             let us = tripsOf (from y (s .j) (w .second .least)) in
             let f = rest-first x (s .i) (s .a) (w .first) some tx in
             let v = rest-later x (s .i) (s .a) (w .first) some tx in
             let o = rest-valid y (s .j) (s .b) (w .second) ty (t .minute + 1) (omega (arith, l .read .minute)) in
-            spelt-on x y xs ys s _ _ us vs us t (w .spelt tx ty) (rw f (join-first t vs us v o)) (rw f (ap (λ (b : Bool). s .agree && b) (agree-first t vs us o))) en el;
+            joined-on x y xs ys s _ _ us vs us t (w .joined tx ty) (rw f (join-first t vs us v o)) (rw f (ap (λ (b : Bool). s .agree && b) (agree-first t vs us o))) en el;
       }
 
   -- the second list's
@@ -239,58 +240,106 @@ module _ (x y xs : List ℕ) (s : stage.Stage) (w : Joining x y xs s) (ys : List
         second = head-next y (s .j) (s .b) (w .second) some n d;
         shorter = omega (arith, spelled-shorter y (s .j) (s .b) l, w .shorter);
         small = (w .small .0, w .small .1, omega (arith, w .small .2));
-        spelt = λ tx ty.
+        joined = λ tx ty.
             let ts = tripsOf (from x (s .i) (w .first .least)) in
             let ws = tripsOf (from y (s .j + s .b .length) (s .b .minute + 1)) in
             let f = rest-first y (s .j) (s .b) (w .second) some ty in
             let o = rest-valid x (s .i) (s .a) (w .first) tx (u .minute + 1) (omega (arith, l .read .minute)) in
-            spelt-on x y xs ys s _ ts _ ts ws u (w .spelt tx ty) (rw f (join-second u ts ws o)) (rw f (ap (λ (b : Bool). s .agree && b) (agree-second u ts ws o))) en el;
+            joined-on x y xs ys s _ ts _ ts ws u (w .joined tx ty) (rw f (join-second u ts ws o)) (rw f (ap (λ (b : Bool). s .agree && b) (agree-second u ts ws o))) en el;
       }
 
-  -- both lists' lines, of one minute
-  pub both-next : s .a .minute ≡ s .b .minute → s .a .minute < noMinute → end ≡ s .end + length (spelledLine x (s .i))
-      → (end ≤ greatestList → take end ys ≡ take (s .end) xs ++ spelledLine x (s .i))
-      → (n m : line.Line) → Headed x (s .i + s .a .length) (s .a .minute + 1) n → Headed y (s .j + s .b .length) (s .b .minute + 1) m
-      → (g : Bool) → g ≡ s .agree && sameRest t u
-      → Joining x y ys (record { i = s .i + s .a .length; a = n; j = s .j + s .b .length; b = m; end = end; agree = g })
-  unfolding head-next spelledLine
-  both-next eq some en el n m d e g eg =
-      let also : s .b .minute < noMinute = omega arith in
-      let l = line-here x (s .i) (s .a) (w .first) some in
-      let k = line-here y (s .j) (s .b) (w .second) also in
+-- two lines of one minute: the second list's is left out
+pub skip-next : (x y xs : List ℕ) (s : stage.Stage) → Joining x y xs s → s .a .minute ≡ s .b .minute → s .a .minute < noMinute
+    → (n : line.Line) → Headed y (s .j + s .b .length) (s .b .minute + 1) n → (g : Bool) → g ≡ s .agree && sameRest (firstTrip (drop (s .i) x)) (firstTrip (drop (s .j) y))
+    → Joining x y xs (record { i = s .i; a = s .a; j = s .j + s .b .length; b = n; end = s .end; agree = g })
+unfolding head-next
+skip-next x y xs s w eq some n d g eg =
+    let t = firstTrip (drop (s .i) x) in
+    let u = firstTrip (drop (s .j) y) in
+    let also : s .b .minute < noMinute = omega arith in
+    let l = line-here x (s .i) (s .a) (w .first) some in
+    let k = line-here y (s .j) (s .b) (w .second) also in
+    record {
+      first = w .first;
+      second = head-next y (s .j) (s .b) (w .second) also n d;
+      shorter = omega (arith, w .shorter);
+      small = w .small;
+      joined = λ tx ty.
+          let vs = tripsOf (from x (s .i + s .a .length) (s .a .minute + 1)) in
+          let ws = tripsOf (from y (s .j + s .b .length) (s .b .minute + 1)) in
+          let f = rest-first x (s .i) (s .a) (w .first) some tx in
+          let h = rest-first y (s .j) (s .b) (w .second) also ty in
+          let q : t .minute ≡ u .minute = omega (arith, l .read .minute, k .read .minute) in
+          let v = rest-later x (s .i) (s .a) (w .first) some tx in
+          let o : validFrom (t .minute + 1) ws ≡ true = rw q (rest-later y (s .j) (s .b) (w .second) also ty) in
+          let p = w .joined tx ty in
+          record {
+            passed = p .passed;
+            joins = p .joins ∙ ap (λ (l : List Trip). p .passed ++ l) (rw (f, h) (join-both t u vs ws q v ∙ sym (join-first t vs ws v o)));
+            agrees = p .agrees ∙ rw (f, h, agree-both t u vs ws q v o, agree-first t vs ws o, eg) (and-assoc (s .agree) (sameRest t u) (agree vs ws));
+            ends = p .ends;
+            laid = p .laid;
+          };
+    }
+
+-- ---- lines of one list
+
+pub spelt-start : (list : List ℕ) (limit : ℕ) (xs : List ℕ) (p : place.Place) → Spelt list limit xs p xs p
+spelt-start list limit xs p =
+    record { first = λ y j b g h w. w; second = λ x i a g h w. w; from = omega arith; on = λ l h. absurd (omega arith); same = refl }
+
+module _ (list : List ℕ) (limit : ℕ) (most : limit ≤ noMinute) (xs ys zs : List ℕ) (p q : place.Place) (w : Placed list ys q) (s : Spelt list limit xs p ys q) (less : q .line .minute < limit)
+    (same : length zs ≡ length ys) (end : ℕ) (en : end ≡ q .end + length (spelledLine list (q .at)))
+    (el : end ≤ greatestList → take end zs ≡ take (q .end) ys ++ spelledLine list (q .at)) (n : line.Line) (d : Headed list (q .at + q .line .length) (q .line .minute + 1) n) where
+  abbrev next : place.Place
+  next = record { at = q .at + q .line .length; line = n; end = end }
+
+  some : q .line .minute < noMinute
+  some = omega arith
+
+  pub placed-next : Placed list zs next
+  placed-next = record {
+    head = head-next list (q .at) (q .line) (w .head) some n d;
+    short = w .short;
+    small = omega (arith, w .small, spelled-shorter list (q .at) (q .line) (line-here list (q .at) (q .line) (w .head) some));
+    room = omega (arith, w .room);
+  }
+
+  pub spelt-next : Spelt list limit xs p zs next
+  spelt-next =
+      let on = next-on list (q .at) (q .line) (w .head) some in
       record {
-        first = head-next x (s .i) (s .a) (w .first) some n d;
-        second = head-next y (s .j) (s .b) (w .second) also m e;
-        shorter = omega (arith, spelled-shorter x (s .i) (s .a) l, w .shorter);
-        small = (w .small .0, w .small .1, omega (arith, w .small .2));
-        spelt = λ tx ty.
-            let vs = tripsOf (from x (s .i + s .a .length) (s .a .minute + 1)) in
-            let ws = tripsOf (from y (s .j + s .b .length) (s .b .minute + 1)) in
-            let f = rest-first x (s .i) (s .a) (w .first) some tx in
-            let h = rest-first y (s .j) (s .b) (w .second) also ty in
-            let q : t .minute ≡ u .minute = omega (arith, l .read .minute, k .read .minute) in
-            let v = rest-later x (s .i) (s .a) (w .first) some tx in
-            let o : validFrom (t .minute + 1) ws ≡ true = rw q (rest-later y (s .j) (s .b) (w .second) also ty) in
-            spelt-on x y xs ys s _ _ _ vs ws t (w .spelt tx ty) (rw (f, h) (join-both t u vs ws q v))
-            (rw (f, h, agree-both t u vs ws q v o, eg) (and-assoc (s .agree) (sameRest t u) (agree vs ws))) en el;
+        first = λ y j b g h v. first-next list y ys (asFirst q j b g) (s .first y j b g h v) zs same end (omega arith) en el n d;
+        second = λ x i a g h v. second-next x list ys (asSecond q i a g) (s .second x i a g h v) zs same end (omega arith) en el n d;
+        from = omega (arith, s .from, on);
+        on = λ l h. omega (arith, s .from, on);
+        same = same ∙ s .same;
       }
+
+-- what the code asks for at a place
+module _ (list xs : List ℕ) (q : place.Place) (w : Placed list xs q) (some : q .line .minute < noMinute) where
+  pub place-ready : LineAt list (q .at) (q .line) × (greatestList + 2 * greatestLine ≤ length xs) × (q .end ≤ 2 * greatestList)
+  place-ready = (line-here list (q .at) (q .line) (w .head) some, w .room, omega (arith, w .small, w .head .within))
+
+  pub place-on : (q .at < q .at + q .line .length) × (q .at + q .line .length ≤ length list) × (length list ≤ greatestList)
+  place-on = (next-on list (q .at) (q .line) (w .head) some, next-within list (q .at) (q .line) (w .head) some, w .short)
 
 -- ---- what the code asks for
 
 module _ (x y xs : List ℕ) (s : stage.Stage) (w : Joining x y xs s) where
-  room : s .end ≤ 2 * greatestList
-  room = omega (arith, w .shorter, w .first .within, w .second .within, w .small)
+  pub first-placed : Placed x xs (record { at = s .i; line = s .a; end = s .end })
+  first-placed = record { head = w .first; short = w .small .0; small = omega (arith, w .shorter, w .second .within, w .small); room = w .small .2 }
 
-  pub first-ready : s .a .minute < noMinute → LineAt x (s .i) (s .a) × (greatestList + 2 * greatestLine ≤ length xs) × (s .end ≤ 2 * greatestList)
-  first-ready some = (line-here x (s .i) (s .a) (w .first) some, w .small .2, room)
+  pub second-placed : Placed y xs (record { at = s .j; line = s .b; end = s .end })
+  second-placed = record { head = w .second; short = w .small .1; small = omega (arith, w .shorter, w .first .within, w .small); room = w .small .2 }
 
-  pub second-ready : s .b .minute < noMinute → LineAt y (s .j) (s .b) × (greatestList + 2 * greatestLine ≤ length xs) × (s .end ≤ 2 * greatestList)
-  second-ready some = (line-here y (s .j) (s .b) (w .second) some, w .small .2, room)
+  pub first-here : s .a .minute < noMinute → LineAt x (s .i) (s .a)
+  first-here some = line-here x (s .i) (s .a) (w .first) some
+
+  pub second-here : s .b .minute < noMinute → LineAt y (s .j) (s .b)
+  second-here some = line-here y (s .j) (s .b) (w .second) some
 
   -- the next index is within the list
-  pub first-on : s .a .minute < noMinute → (s .i < s .i + s .a .length) × (s .i + s .a .length ≤ greatestList)
-  first-on some = (next-on x (s .i) (s .a) (w .first) some, omega (arith, next-within x (s .i) (s .a) (w .first) some, w .small .0))
-
   pub second-on : s .b .minute < noMinute → (s .j < s .j + s .b .length) × (s .j + s .b .length ≤ greatestList)
   second-on some = (next-on y (s .j) (s .b) (w .second) some, omega (arith, next-within y (s .j) (s .b) (w .second) some, w .small .1))
 
@@ -320,7 +369,7 @@ pub ended : (x y xs : List ℕ) (s : stage.Stage) → Joining x y xs s → noMin
 ended x y xs s w none ox oy =
     let tx = walk-whole x (s .i) (s .a) (w .first) ox in
     let ty = walk-whole y (s .j) (s .b) (w .second) oy in
-    let p = w .spelt tx ty in
+    let p = w .joined tx ty in
     let nx = rest-none x (s .i) (s .a) (w .first) (omega arith) tx in
     let ny = rest-none y (s .j) (s .b) (w .second) (omega arith) ty in
     let all : joinedTrips x y ≡ p .passed = p .joins ∙ rw (nx, ny) (append-nil (p .passed)) in

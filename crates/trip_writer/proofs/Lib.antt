@@ -1,4 +1,3 @@
 pub mod Pieces
-pub mod Writing
 pub mod Joining
 pub mod Answers

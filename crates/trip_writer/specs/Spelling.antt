@@ -15,8 +15,3 @@ use Rattle.trip_writer.specs.declared.Kept as kept
 pub record KeptAt (list : List ℕ) (at : ℕ) (k : kept.Kept) : Type 0 where
   pub first : k .first ≡ at + leadingZeros (field 0 (firstLine (drop at list)))
   pub third : k .third ≡ at + (length (field 0 (firstLine (drop at list))) + 1) + leadingZeros (field 1 (firstLine (drop at list)))
-
--- one pass that spells: the count of its bytes or the refusal; where it is done, the spelling stands at the front of xs
-pub record Spelled (list xs : List ℕ) (answer : Coded) : Type 0 where
-  pub told : answer ≡ ifDone (answerOf (parse list)) (done (length (spelling list))) (answerOf (parse list))
-  pub laid : (n : ℕ) → answer ≡ done n → take n xs ≡ spelling list

@@ -16,8 +16,8 @@ ghost use Rattle.trip_list.specs.List.{greatestList, listAnswer, writeAnswer, w
 ghost use Rattle.trip_list.specs.Lines.{firstTrip};
 ghost use Rattle.trip_list.specs.Scanner.{greatestLine, LineAt, spelledLine};
 ghost use Rattle.trip_join.specs.Join.{sameBytes, sameRest, joinAnswer, joined};
-ghost use Rattle.trip_writer.specs.Spelling.{KeptAt, Spelled};
-ghost use Rattle.trip_writer.specs.Joining.{noMinute, Headed, Joining};
+ghost use Rattle.trip_writer.specs.Spelling.{KeptAt};
+ghost use Rattle.trip_writer.specs.Joining.{noMinute, Headed, Placed, Spelt, Joining};
 
 // The longest list.
 const MAX_LIST: usize = 4096;
@@ -128,54 +128,7 @@ fn put_line(list: &[u8], at: usize, line: Line, output: &mut [u8], end: usize) -
     middle + (next - third)
 }
 
-// ---- a list
-
-// The one spelling of a list is laid over the front of the output, line after line, up to the first that is refused. The count is
-// the number of its bytes.
-fn spell_lines(list: &[u8], output: &mut [u8]) -> Answer
-    requires { ⌜ length (now list) + 2 * greatestLine ≤ length (now output) ⌝ }
-    ensures { λ r. ⌜ Spelled (now (list .entry)) (now (output .exit)) (coded r) ⌝ }
-{
-    let mut at = 0;
-    let mut least = 0;
-    let mut end = 0;
-    while at < list.len() {
-        match trip_list::line_at(list, at, least) {
-            Step::At(line) => {
-                end = put_line(list, at, line, output, end);
-                at += line.length;
-                least = line.minute + 1;
-            }
-            Step::Refused(refusal) => return Answer::Refused(refusal),
-        }
-    }
-    Answer::Done(end)
-}
-
-// Writes the one spelling of a list to the front of a buffer of 4,096 bytes, and counts its bytes. It is spelled into an array
-// first: a bad line must leave the buffer as it came.
-pub fn write(list: &[u8], buffer: &mut [u8]) -> Answer
-    ensures { λ r. ⌜ (coded r ≡ writeAnswer (now (list .entry)) (now (buffer .entry)))
-        × (now (buffer .exit) ≡ written (now (list .entry)) (now (buffer .entry))) ⌝ }
-{
-    if buffer.len() != MAX_LIST {
-        return Answer::Refused(Refusal::Shape);
-    }
-    if list.len() > MAX_LIST {
-        return Answer::Refused(Refusal::Range);
-    }
-    let mut spelled = [0u8; ROOM];
-    let answer = spell_lines(list, &mut spelled);
-    match answer {
-        Answer::Done(end) => {
-            memory::copy(buffer, &spelled[..end]);
-            Answer::Done(end)
-        }
-        Answer::Refused(refusal) => Answer::Refused(refusal),
-    }
-}
-
-// ---- two lists
+// ---- lines of a list
 
 // Above every minute.
 const NO_MINUTE: usize = 4294967296;
@@ -198,6 +151,72 @@ fn head(list: &[u8], at: usize, least: usize) -> Line
         },
     }
 }
+
+// The one spelling of the line that starts at index `at` is laid over the output from `end` on, where that is within the longest list.
+// The index after it comes back, wherever that is.
+fn put_within(list: &[u8], at: usize, line: Line, output: &mut [u8], end: usize) -> usize
+    requires { ⌜ LineAt (now list) at line × (greatestList + 2 * greatestLine ≤ length (now output)) × (end ≤ 2 * greatestList) ⌝ }
+    ensures { λ r. ⌜ (r ≡ end + length (spelledLine (now (list .entry)) at))
+        × (r ≤ greatestList → take r (now (output .exit)) ≡ take end (now (output .entry)) ++ spelledLine (now (list .entry)) at) ⌝ }
+{
+    let place = number::min(end, MAX_LIST);
+    end + (put_line(list, at, line, output, place) - place)
+}
+
+// A line of a list, its index, and the index in the output where its spelling would begin.
+struct Place {
+    at: usize,
+    line: Line,
+    end: usize,
+}
+
+// The one spelling of the lines from a place on whose minutes are below `limit`. The place after them comes back.
+fn spell_below(list: &[u8], place: Place, limit: usize, output: &mut [u8]) -> Place
+    requires { ⌜ Placed (now list) (now output) place × (limit ≤ noMinute) ⌝ }
+    ensures { λ r. ⌜ Spelt (now (list .entry)) limit (now (output .entry)) place (now (output .exit)) r × (limit ≤ r .line .minute) ⌝ }
+{
+    let mut at = place.at;
+    let mut line = place.line;
+    let mut end = place.end;
+    while line.minute < limit {
+        end = put_within(list, at, line, output, end);
+        at += line.length;
+        line = head(list, at, line.minute + 1);
+    }
+    Place { at, line, end }
+}
+
+// ---- a list
+
+// Writes the one spelling of a list to the front of a buffer of 4,096 bytes, and counts its bytes. It is spelled into an array
+// first: a bad line must leave the buffer as it came.
+pub fn write(list: &[u8], buffer: &mut [u8]) -> Answer
+    ensures { λ r. ⌜ (coded r ≡ writeAnswer (now (list .entry)) (now (buffer .entry)))
+        × (now (buffer .exit) ≡ written (now (list .entry)) (now (buffer .entry))) ⌝ }
+{
+    if buffer.len() != MAX_LIST {
+        return Answer::Refused(Refusal::Shape);
+    }
+    if list.len() > MAX_LIST {
+        return Answer::Refused(Refusal::Range);
+    }
+    let mut spelled = [0u8; ROOM];
+    let line = head(list, 0, 0);
+    let start = Place {
+        at: 0,
+        line,
+        end: 0,
+    };
+    let place = spell_below(list, start, NO_MINUTE, &mut spelled);
+    if place.at < list.len() {
+        return trip_list::check(list);
+    }
+    let end = place.end;
+    memory::copy(buffer, &spelled[..end]);
+    Answer::Done(end)
+}
+
+// ---- two lists
 
 fn same_bytes(a: &[u8], b: &[u8]) -> bool
     ensures { λ r. ⌜ r ≡ sameBytes (now (a .entry)) (now (b .entry)) ⌝ }
@@ -231,17 +250,6 @@ fn same_rest(first: &[u8], i: usize, a: Line, second: &[u8], j: usize, b: Line) 
     same_bytes(&first[start..end], &second[start2..end2])
 }
 
-// The one spelling of the line that starts at index `at` is laid over the output from `end` on, where that is within the longest list.
-// The index after it comes back, wherever that is.
-fn put_within(list: &[u8], at: usize, line: Line, output: &mut [u8], end: usize) -> usize
-    requires { ⌜ LineAt (now list) at line × (greatestList + 2 * greatestLine ≤ length (now output)) × (end ≤ 2 * greatestList) ⌝ }
-    ensures { λ r. ⌜ (r ≡ end + length (spelledLine (now (list .entry)) at))
-        × (r ≤ greatestList → take r (now (output .exit)) ≡ take end (now (output .entry)) ++ spelledLine (now (list .entry)) at) ⌝ }
-{
-    let place = number::min(end, MAX_LIST);
-    end + (put_line(list, at, line, output, place) - place)
-}
-
 // How far two lists are joined: the index of the next line of each, and that line; the bytes of the joined list up to there; whether
 // the lists agree up to there.
 struct Stage {
@@ -259,7 +267,8 @@ fn both(a: bool, b: bool) -> bool
     if a { b } else { false }
 }
 
-// The next trip of the join. Of two of one minute the first list's line is taken.
+// The next trips of the join: those of one list that come before the next of the other. Of two of one minute the second list's is
+// left out.
 fn join_next(first: &[u8], second: &[u8], s: Stage, output: &mut [u8]) -> Stage
     requires { ⌜ Joining (now first) (now second) (now output) s × (min (s .a .minute) (s .b .minute) < noMinute) ⌝ }
     ensures { λ r. ⌜ Joining (now (first .entry)) (now (second .entry)) (now (output .exit)) r × (s .i + s .j < r .i + r .j) ⌝ }
@@ -268,43 +277,49 @@ fn join_next(first: &[u8], second: &[u8], s: Stage, output: &mut [u8]) -> Stage
     let a = s.a;
     let j = s.j;
     let b = s.b;
+    let end = s.end;
     if a.minute < b.minute {
-        let end = put_within(first, i, a, output, s.end);
-        let next = i + a.length;
-        let line = head(first, next, a.minute + 1);
+        let start = Place {
+            at: i,
+            line: a,
+            end,
+        };
+        let place = spell_below(first, start, b.minute, output);
+        let line = place.line;
         return Stage {
-            i: next,
+            i: place.at,
             a: line,
             j,
             b,
-            end,
+            end: place.end,
             agree: s.agree,
         };
     }
     if b.minute < a.minute {
-        let end = put_within(second, j, b, output, s.end);
-        let next = j + b.length;
-        let line = head(second, next, b.minute + 1);
+        let start = Place {
+            at: j,
+            line: b,
+            end,
+        };
+        let place = spell_below(second, start, a.minute, output);
+        let line = place.line;
         return Stage {
             i,
             a,
-            j: next,
+            j: place.at,
             b: line,
-            end,
+            end: place.end,
             agree: s.agree,
         };
     }
     let agree = both(s.agree, same_rest(first, i, a, second, j, b));
-    let end = put_within(first, i, a, output, s.end);
-    let next = i + a.length;
-    let line = head(first, next, a.minute + 1);
-    let next2 = j + b.length;
-    let line2 = head(second, next2, b.minute + 1);
+    let next = j + b.length;
+    let line = head(second, next, b.minute + 1);
     Stage {
-        i: next,
-        a: line,
-        j: next2,
-        b: line2,
+        i,
+        a,
+        j: next,
+        b: line,
         end,
         agree,
     }
