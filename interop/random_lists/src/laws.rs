@@ -1,6 +1,7 @@
 //! What holds of one implementation, whatever another one says.
 
 use std::collections::BTreeMap;
+use std::ptr;
 
 use layout::{LIST_BYTES, TRIP_NUMBERS};
 use reference::trips::Trip;
@@ -142,9 +143,10 @@ fn joins_to<L: TripLists>(
     second: &[u8],
     expected: &Result<Vec<u8>, u32>,
 ) -> Result<(), String> {
-    let bytes = [first, second].map(with_lf_behind);
+    let [one, two] = &[first, second].map(with_lf_behind);
+    // a list and itself are lent as the same memory
+    let two = if ptr::eq(first, second) { one } else { two };
     let joined = filled("join_trips", |buffer| {
-        let [one, two] = &bytes;
         L::join_trips(&one[..first.len()], &two[..second.len()], buffer)
     })?;
     if joined == *expected {

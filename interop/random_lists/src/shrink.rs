@@ -141,9 +141,9 @@ impl<F: Fn(&[u8], &Check) -> bool> Shrinker<F> {
                 let removed: Vec<u8> = text.drain(cuts[start]..cuts[end]).collect();
                 let moved = self.check.without(&removed);
                 let goes_with = matches!(which, Which::First) && moved != self.check;
-                if !(goes_with && self.accepts(text.clone(), moved))
-                    && !self.accepts_text(which, text)
-                {
+                let accepted = goes_with && self.accepts(text.clone(), moved)
+                    || self.accepts_text(which, text);
+                if !accepted {
                     start = end;
                 }
             }
@@ -234,7 +234,7 @@ mod tests {
         let minutes = |list: &[u8]| -> Vec<Vec<u8>> {
             let lines = list.split_inclusive(|&byte| byte == b'\n');
             let minutes = lines.map(|line| digits(line).to_vec());
-            minutes.filter(|minute| minute.len() > 0).collect()
+            minutes.filter(|minute| !minute.is_empty()).collect()
         };
         let fails = |list: &[u8], check: &Check| {
             let second = check.second().expect("two lists");

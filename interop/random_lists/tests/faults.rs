@@ -17,7 +17,7 @@ const TOO_LONG: u32 = 18 << 16;
 /// The reference, with one fault.
 struct Faulty<const FAULT: usize>;
 
-const FAULTS: usize = 54;
+const FAULTS: usize = 56;
 
 /// The bytes between two LF.
 fn lines(list: &[u8]) -> impl Iterator<Item = &[u8]> {
@@ -137,6 +137,14 @@ fn respell(
     buffer.copy_from_slice(came);
     buffer[..text.len()].copy_from_slice(text.as_bytes());
     text.len() as u32
+}
+
+/// The lines of a list before the first bad one.
+fn sound_lines(list: &[u8]) -> Vec<u8> {
+    let lines: Vec<&[u8]> = lines(list).collect();
+    let counts: Vec<usize> = (1..=lines.len()).collect();
+    let sound = |&count: &usize| trips(&lines[..count].concat()).is_ok();
+    lines[..counts.partition_point(sound)].concat()
 }
 
 /// The trips of both lists by minute, those of the first where both have one;
@@ -383,6 +391,18 @@ impl<const FAULT: usize> TripLists for Faulty<FAULT> {
             0..65_536 | CONFLICT | TOO_LONG => {
                 faulty_join::<FAULT>([first, second], answer, &came, buffer)
             }
+            // a conflict, or that the join is too long, is told before a bad line
+            // behind it
+            FORM | ORDER if FAULT == 55 || FAULT == 56 => {
+                let early = [CONFLICT, TOO_LONG][FAULT - 55];
+                let [first, second] = [first, second].map(sound_lines);
+                let found = Reference::join_trips(&first, &second, &mut [0; LIST_BYTES]);
+                if found == early {
+                    early
+                } else {
+                    answer
+                }
+            }
             _ => answer,
         }
     }
@@ -425,7 +445,7 @@ fn every_fault_is_found() {
     let found = faults_found!(Reference, 8_000:
         1 2 3 4 5 6 7 8 9 10 11 12 13 14 15 16 17 18 19 20
         21 22 23 24 25 26 27 28 29 30 31 32 33 34 35 36 37 38 39 40
-        41 42 43 44 45 46 47 48 49 50 51 52 53 54
+        41 42 43 44 45 46 47 48 49 50 51 52 53 54 55 56
     );
     assert_eq!(found, [true; FAULTS]);
 }
@@ -435,9 +455,9 @@ fn every_fault_is_found() {
 fn some_faults_are_found_beside_themselves() {
     let found = faults_found!(itself, 8_000:
         10 17 18 19 20 21 22 23 25 26 28 29 30 31 33 34 36 37 38 43
-        44 45 46 48 49 51 53 54
+        44 45 46 48 49 51 53 54 55 56
     );
-    assert_eq!(found, [true; 28]);
+    assert_eq!(found, [true; 30]);
 }
 
 #[test]
