@@ -55,7 +55,7 @@ fn line_cuts(list: &[u8]) -> Vec<usize> {
 
 /// Two lists with a minute that both have made 0 or 1.
 fn with_simpler_minutes(first: &[u8], second: &[u8]) -> Vec<[Vec<u8>; 2]> {
-    // a minute and what stands behind it
+    // where a minute begins and ends
     let lines = |list: &[u8]| -> Vec<(usize, usize)> {
         let lines = line_cuts(list).into_iter();
         lines
