@@ -27,10 +27,12 @@ differential - compares the archive of the proved store with the reference
 
   differential lists --lists N --seed S [--seed S ...] [--fresh]
       Makes at least N trip lists in all, spread over the seeds: ones that keep
-      all rules, ones with a fault or two, and random bytes. Compares the calls
-      on trip lists as above, and holds the archive's against each other: what is
-      written is taken again and written as it stands, is no longer and has the
-      same trips, and the cursor gives the trips that are read place by place.
+      all rules, ones with a fault or two, and random bytes; and as many pairs to
+      be joined. Compares the calls on trip lists as above, and holds the
+      archive's against each other: what is written is taken again and written as
+      it stands, is no longer and has the same trips, the cursor gives the trips
+      that are read place by place, and a joined list has the trips of both,
+      whichever comes first.
 
   differential --help
       Prints this text.
@@ -138,12 +140,19 @@ impl Counts for random_lists::Tally {
     }
 
     fn line(&self) -> String {
+        let joins = self.of("join_trips");
+        let answers = joins.iter().enumerate().filter(|(_, &count)| count > 0);
+        let answers: Vec<String> = answers
+            .map(|(number, count)| format!("{number}: {count}"))
+            .collect();
         format!(
-            "{} lists, {} calls ({} lists of {} trips accepted)",
+            "{} lists, {} calls ({} lists of {} trips accepted), {} pairs ({})",
             self.lists,
             self.calls(),
             self.accepted,
-            self.trips
+            self.trips,
+            self.pairs,
+            answers.join(", ")
         )
     }
 
@@ -296,13 +305,17 @@ mod tests {
         assert!(run(2_000, &[3, 4], compare, &mut out).unwrap());
         let text = String::from_utf8(out).unwrap();
         assert!(
-            text.starts_with("seed 3: 1000 lists, 8000 calls ("),
+            text.starts_with("seed 3: 1000 lists, 9000 calls ("),
             "{text}"
         );
         assert!(
-            text.contains("\ntotal: 2000 lists, 16000 calls ("),
+            text.contains("\ntotal: 2000 lists, 18000 calls ("),
             "{text}"
         );
+        assert!(text.contains(" accepted), 1000 pairs (0: "), "{text}");
+        for number in [2, 7, 10, 11, 17, 18] {
+            assert!(text.contains(&format!(", {number}: ")), "{text}");
+        }
     }
 
     #[test]

@@ -1,4 +1,4 @@
-//! Random calls on a list.
+//! Random calls on a list, and on two.
 
 use std::fmt;
 
@@ -9,7 +9,8 @@ use random_sessions::rng::Rng;
 use crate::random_list::{digits_at, line_start};
 use crate::trip_lists::TripLists;
 
-/// One call with its arguments but for the list, and the buffer that it fills.
+/// One call with its arguments but for the list, or the first one of two, and the
+/// buffer that it fills.
 #[derive(Clone, Debug, PartialEq, Eq)]
 pub enum Call {
     /// See [`TripLists::read_trip`].
@@ -33,13 +34,29 @@ pub enum Call {
         /// Takes the spelling.
         buffer: Vec<u8>,
     },
+    /// See [`TripLists::join_trips`].
+    JoinTrips {
+        /// The second list.
+        second: Vec<u8>,
+        /// Takes the joined list.
+        buffer: Vec<u8>,
+    },
 }
 
 /// The names of the calls, in the order of [`Call::kind`].
-pub const KINDS: [&str; 3] = ["read_trip", "next_trip", "write_trips"];
+pub const KINDS: [&str; 4] = ["read_trip", "next_trip", "write_trips", "join_trips"];
 
+/// The answers that a call on one list can give.
+const OF_ONE_LIST: &[usize] = &[0, 2, 7, 10, 11];
 /// The answers that each call can give.
-pub const NUMBERS: [usize; 5] = [0, 2, 7, 10, 11];
+pub const NUMBERS: [&[usize]; KINDS.len()] = [
+    OF_ONE_LIST,
+    OF_ONE_LIST,
+    OF_ONE_LIST,
+    &[0, 2, 7, 10, 11, 17, 18],
+];
+/// The greatest of them.
+pub const GREATEST: usize = 18;
 
 impl Call {
     /// A random call on this list.
@@ -57,16 +74,17 @@ impl Call {
                     trip: trip(rng),
                 }
             }
-            _ => {
-                let length = match rng.below(12) {
-                    0 => rng.pick(&[0, 1, LIST_BYTES - 1, LIST_BYTES + 1, 2 * LIST_BYTES]),
-                    1 => list.len(),
-                    _ => LIST_BYTES,
-                };
-                Call::WriteTrips {
-                    buffer: random_bytes(rng, length),
-                }
-            }
+            _ => Call::WriteTrips {
+                buffer: buffer(rng, list.len()),
+            },
+        }
+    }
+
+    /// The join of a list with this one.
+    pub fn join(rng: &mut Rng, second: Vec<u8>) -> Call {
+        Call::JoinTrips {
+            buffer: buffer(rng, second.len()),
+            second,
         }
     }
 
@@ -76,15 +94,34 @@ impl Call {
             Call::ReadTrip { .. } => 0,
             Call::NextTrip { .. } => 1,
             Call::WriteTrips { .. } => 2,
+            Call::JoinTrips { .. } => 3,
+        }
+    }
+
+    /// The second list, where two are joined.
+    pub fn second(&self) -> Option<&Vec<u8>> {
+        match self {
+            Call::JoinTrips { second, .. } => Some(second),
+            _ => None,
+        }
+    }
+
+    /// The same call with another second list, where two are joined.
+    pub fn with_second(&self, second: Vec<u8>) -> Call {
+        match self {
+            Call::JoinTrips { buffer, .. } => Call::JoinTrips {
+                second,
+                buffer: buffer.clone(),
+            },
+            call => call.clone(),
         }
     }
 
     /// Carries the call out, on slices that lie between guards.
     pub fn run<L: TripLists>(mut self, list: &[u8]) -> Ran {
-        let mut bytes = with_lf_behind(list);
-        let ((word, own_intact), list_intact) = guarded(&mut bytes, |bytes| {
-            let list = &bytes[..list.len()];
-            match &mut self {
+        let second = self.second().cloned().unwrap_or_default();
+        let (ran, first_intact, first_kept) = lend(list, |list| {
+            lend(&second, |second| match &mut self {
                 Call::ReadTrip { place, trip } => {
                     guarded(trip, |trip| L::read_trip(list, *place, trip))
                 }
@@ -94,13 +131,17 @@ impl Call {
                 Call::WriteTrips { buffer } => {
                     guarded(buffer, |buffer| L::write_trips(list, buffer))
                 }
-            }
+                Call::JoinTrips { buffer, .. } => {
+                    guarded(buffer, |buffer| L::join_trips(list, second, buffer))
+                }
+            })
         });
+        let ((word, own_intact), second_intact, second_kept) = ran;
         Ran {
             word,
             call: self,
-            intact: own_intact && list_intact,
-            list_kept: bytes.strip_suffix(b"\n") == Some(list),
+            intact: own_intact && first_intact && second_intact,
+            lists_kept: first_kept && second_kept,
         }
     }
 
@@ -118,8 +159,8 @@ impl Call {
             if !ran.intact {
                 return Err(format!("{which}{BESIDE}"));
             }
-            if !ran.list_kept {
-                return Err(format!("{which}the list did not stay as it came"));
+            if !ran.lists_kept {
+                return Err(format!("{which}a list did not stay as it came"));
             }
         }
         let number = (two.word >> 16) as usize;
@@ -132,7 +173,7 @@ impl Call {
                 one.word, two.word
             ));
         }
-        if !NUMBERS.contains(&number) {
+        if !NUMBERS[self.kind()].contains(&number) {
             return Err(format!("the answer {:x} has no meaning", two.word));
         }
         if one.call != two.call {
@@ -151,7 +192,7 @@ impl Call {
         let mut call = self.clone();
         match &mut call {
             Call::ReadTrip { trip, .. } | Call::NextTrip { trip, .. } => trip.fill(1),
-            Call::WriteTrips { buffer } => buffer.fill(1),
+            Call::WriteTrips { buffer } | Call::JoinTrips { buffer, .. } => buffer.fill(1),
         }
         if call != *self {
             simpler.push(call);
@@ -163,7 +204,7 @@ impl Call {
         match self {
             Call::ReadTrip { place, .. } => vec![place],
             Call::NextTrip { at, least, .. } => vec![at, least],
-            Call::WriteTrips { .. } => vec![],
+            Call::WriteTrips { .. } | Call::JoinTrips { .. } => vec![],
         }
     }
 
@@ -177,7 +218,7 @@ impl Call {
                 *place = place.saturating_sub(lines);
             }
             Call::NextTrip { at, .. } => *at = at.saturating_sub(bytes.len()),
-            Call::WriteTrips { .. } => {}
+            Call::WriteTrips { .. } | Call::JoinTrips { .. } => {}
         }
         call
     }
@@ -189,6 +230,15 @@ pub fn with_lf_behind(list: &[u8]) -> Vec<u8> {
     [list, b"\n"].concat()
 }
 
+/// Lends a list between guards, with that LF behind it. Answers what the call
+/// answers, whether the guards are as they were made, and whether the list and
+/// the LF are as they came.
+fn lend<R>(list: &[u8], call: impl FnOnce(&[u8]) -> R) -> (R, bool, bool) {
+    let mut bytes = with_lf_behind(list);
+    let (answer, intact) = guarded(&mut bytes, |bytes| call(&bytes[..list.len()]));
+    (answer, intact, bytes.strip_suffix(b"\n") == Some(list))
+}
+
 /// A call that was made.
 #[derive(Clone, Debug, PartialEq, Eq)]
 pub struct Ran {
@@ -198,8 +248,17 @@ pub struct Ran {
     pub call: Call,
     /// Whether all guards are as they were made.
     pub intact: bool,
-    /// Whether the list is as it came, and the byte behind it.
-    pub list_kept: bool,
+    /// Whether each list is as it came, and the byte behind it.
+    pub lists_kept: bool,
+}
+
+/// A list as text.
+pub struct Text<'a>(pub &'a [u8]);
+
+impl fmt::Display for Text<'_> {
+    fn fmt(&self, f: &mut fmt::Formatter<'_>) -> fmt::Result {
+        write!(f, "{} bytes: \"{}\"", self.0.len(), self.0.escape_ascii())
+    }
 }
 
 impl fmt::Display for Call {
@@ -211,6 +270,10 @@ impl fmt::Display for Call {
                 write!(f, "at {at}, least {least}, trip {trip:?}")
             }
             Call::WriteTrips { buffer } => {
+                write!(f, "buffer of {}: {}", buffer.len(), Bytes(buffer))
+            }
+            Call::JoinTrips { second, buffer } => {
+                write!(f, "with {}, ", Text(second))?;
                 write!(f, "buffer of {}: {}", buffer.len(), Bytes(buffer))
             }
         }
@@ -255,6 +318,17 @@ fn least(rng: &mut Rng, list: &[u8], at: usize) -> usize {
     }
 }
 
+/// A buffer for a list, mostly of the length that is right. Another length is at
+/// times that of the list.
+fn buffer(rng: &mut Rng, list: usize) -> Vec<u8> {
+    let length = match rng.below(12) {
+        0 => rng.pick(&[0, 1, LIST_BYTES - 1, LIST_BYTES + 1, 2 * LIST_BYTES]),
+        1 => list,
+        _ => LIST_BYTES,
+    };
+    random_bytes(rng, length)
+}
+
 fn trip(rng: &mut Rng) -> Vec<u32> {
     let length = match rng.below(12) {
         0 => rng.pick(&[0, 1, TRIP_NUMBERS - 1, TRIP_NUMBERS + 1, 2 * TRIP_NUMBERS]),
@@ -282,12 +356,12 @@ mod tests {
             ..right.clone()
         };
         let list_altered = Ran {
-            list_kept: false,
+            lists_kept: false,
             ..right.clone()
         };
         for (ran, what) in [
             (beside, BESIDE),
-            (list_altered, "the list did not stay as it came"),
+            (list_altered, "a list did not stay as it came"),
         ] {
             assert_eq!(call.judge(&right, &ran), Err(what.to_owned()));
             let first = format!("the first one: {what}");
@@ -300,7 +374,7 @@ mod tests {
         let list = b"1,2,A\n3,4,B\n5,6,C\n";
         let numbers = |call: Call, list: &[u8]| match call.run::<Reference>(list).call {
             Call::ReadTrip { trip, .. } | Call::NextTrip { trip, .. } => trip[..2].to_vec(),
-            Call::WriteTrips { .. } => vec![],
+            Call::WriteTrips { .. } | Call::JoinTrips { .. } => vec![],
         };
         let trip = vec![0; TRIP_NUMBERS];
         let read = Call::ReadTrip {

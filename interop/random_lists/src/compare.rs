@@ -5,13 +5,15 @@ use std::fmt;
 use layout::LIST_BYTES;
 use random_sessions::rng::Rng;
 
-use crate::call::{Call, KINDS, NUMBERS};
-use crate::laws::laws;
+use crate::call::{Call, Text, GREATEST, KINDS, NUMBERS};
+use crate::laws::{join_laws, laws};
 use crate::random_list::random_list;
+use crate::random_pair::random_pair;
 use crate::shrink::shrink;
 use crate::trip_lists::TripLists;
 
-/// How often each call gave each answer, and what lists it was given.
+/// How often each call gave each answer, and what lists it was given. Lists and
+/// trips are those of the calls on one list, pairs those of the joins.
 #[derive(Clone, Debug, Default, PartialEq, Eq)]
 pub struct Tally {
     /// Lists.
@@ -22,7 +24,7 @@ pub struct Tally {
     pub trips: usize,
     /// Accepted lists of the greatest length.
     pub full: usize,
-    answers: [[usize; 12]; KINDS.len()],
+    answers: [[usize; GREATEST + 1]; KINDS.len()],
     /// Places past the last trip.
     pub past: usize,
     /// Cursors at the end of a list or past it.
@@ -31,11 +33,17 @@ pub struct Tally {
     pub amid: usize,
     /// Lists written with fewer bytes than they have.
     pub shorter: usize,
+    /// Pairs of lists.
+    pub pairs: usize,
+    /// Pairs that are joined, and have a trip in both lists.
+    pub common: usize,
+    /// Joined lists of the greatest length.
+    pub full_joins: usize,
 }
 
 impl Tally {
     /// The answers of a call, by their number: 0 for done.
-    pub fn of(&self, name: &str) -> [usize; 12] {
+    pub fn of(&self, name: &str) -> [usize; GREATEST + 1] {
         let kind = KINDS.iter().position(|&kind| kind == name);
         self.answers[kind.expect("a call has this name")]
     }
@@ -59,6 +67,9 @@ impl Tally {
         self.ends += other.ends;
         self.amid += other.amid;
         self.shorter += other.shorter;
+        self.pairs += other.pairs;
+        self.common += other.common;
+        self.full_joins += other.full_joins;
     }
 
     /// What lists and calls can come to, and did not.
@@ -69,8 +80,8 @@ impl Tally {
                 missing.push(what);
             }
         };
-        for (kind, answers) in KINDS.iter().zip(&self.answers) {
-            for number in NUMBERS {
+        for (kind, (answers, numbers)) in KINDS.iter().zip(self.answers.iter().zip(NUMBERS)) {
+            for &number in numbers {
                 need(answers[number], format!("{kind} answering {number}"));
             }
         }
@@ -81,6 +92,8 @@ impl Tally {
             (self.ends, "cursors at the end"),
             (self.amid, "trips amid a line"),
             (self.shorter, "lists written shorter"),
+            (self.common, "joined lists with common trips"),
+            (self.full_joins, "joined lists of the greatest length"),
         ] {
             need(count, what.to_owned());
         }
@@ -100,6 +113,7 @@ impl Tally {
                 self.amid += usize::from(at > 0 && list[at - 1] != b'\n');
             }
             Call::WriteTrips { .. } => self.shorter += usize::from(count < list.len()),
+            Call::JoinTrips { .. } => self.full_joins += usize::from(count == LIST_BYTES),
         }
     }
 
@@ -109,9 +123,14 @@ impl Tally {
         self.trips += trips.unwrap_or(0);
         self.full += usize::from(trips.is_some() && list.len() == LIST_BYTES);
     }
+
+    fn count_pair(&mut self, common: Option<usize>) {
+        self.pairs += 1;
+        self.common += usize::from(common.is_some_and(|common| common > 0));
+    }
 }
 
-/// What is checked on a list.
+/// What is checked on a list, or on two.
 #[derive(Clone, Debug, PartialEq, Eq)]
 pub enum Check {
     /// That both do the same in this call.
@@ -121,6 +140,12 @@ pub enum Check {
         /// From one place to the next that is read.
         step: usize,
     },
+    /// That the joins of the second one agree with its other calls and with each
+    /// other.
+    JoinLaws {
+        /// The second list.
+        second: Vec<u8>,
+    },
 }
 
 impl Check {
@@ -129,6 +154,25 @@ impl Check {
         match self {
             Check::Call(call) => call.compare::<A, B>(list).err(),
             Check::Laws { step } => laws::<B>(list, *step).err(),
+            Check::JoinLaws { second } => join_laws::<B>(list, second).err(),
+        }
+    }
+
+    /// The second list, where two are joined.
+    pub(crate) fn second(&self) -> Option<&Vec<u8>> {
+        match self {
+            Check::Call(call) => call.second(),
+            Check::Laws { .. } => None,
+            Check::JoinLaws { second } => Some(second),
+        }
+    }
+
+    /// The same check with another second list, where two are joined.
+    pub(crate) fn with_second(&self, second: Vec<u8>) -> Check {
+        match self {
+            Check::Call(call) => Check::Call(call.with_second(second)),
+            Check::Laws { .. } => self.clone(),
+            Check::JoinLaws { .. } => Check::JoinLaws { second },
         }
     }
 
@@ -136,7 +180,7 @@ impl Check {
     pub(crate) fn simpler(&self) -> Vec<Check> {
         match self {
             Check::Call(call) => call.simpler().into_iter().map(Check::Call).collect(),
-            Check::Laws { step: 1 } => vec![],
+            Check::Laws { step: 1 } | Check::JoinLaws { .. } => vec![],
             Check::Laws { .. } => vec![Check::Laws { step: 1 }],
         }
     }
@@ -155,6 +199,7 @@ impl fmt::Display for Check {
         match self {
             Check::Call(call) => write!(f, "{call}"),
             Check::Laws { step } => write!(f, "all calls, on each place in steps of {step}"),
+            Check::JoinLaws { second } => write!(f, "joins with {}", Text(second)),
         }
     }
 }
@@ -167,7 +212,7 @@ pub struct Difference {
     pub index: usize,
     /// What is wrong.
     pub what: String,
-    /// The list, made simpler where the difference stayed.
+    /// The list, or the first one of two, made simpler where the difference stayed.
     pub list: Vec<u8>,
     /// What was checked on it, made simpler alike.
     pub check: Check,
@@ -177,8 +222,7 @@ impl fmt::Display for Difference {
     fn fmt(&self, f: &mut fmt::Formatter<'_>) -> fmt::Result {
         writeln!(f, "seed {}, list {}: {}", self.seed, self.index, self.what)?;
         writeln!(f, "{}", self.check)?;
-        let length = self.list.len();
-        write!(f, "on {length} bytes: \"{}\"", self.list.escape_ascii())
+        write!(f, "on {}", Text(&self.list))
     }
 }
 
@@ -193,9 +237,9 @@ const CALLS: usize = 8;
 /// A list up to this length is read at each place.
 const EACH_PLACE: usize = 400;
 
-/// Makes random calls on this many random lists with both, and holds the second
-/// one against its laws on each. Tells the first list on which something is
-/// wrong.
+/// Makes random calls on this many random lists with both, joins as many random
+/// pairs, and holds the second one against its laws on each. Tells the first list
+/// on which something is wrong.
 pub fn compare<A: TripLists, B: TripLists>(
     seed: u64,
     lists: usize,
@@ -203,16 +247,14 @@ pub fn compare<A: TripLists, B: TripLists>(
     let mut rng = Rng::new(seed);
     let mut tally = Tally::default();
     while tally.lists < lists {
-        let list = random_list(&mut rng);
         let index = tally.lists;
+        let wrong = |what, list, check| simplest::<A, B>(seed, index, what, list, check);
+        let list = random_list(&mut rng);
         for _ in 0..CALLS {
             let call = Call::random(&mut rng, &list);
             match call.compare::<A, B>(&list) {
                 Ok(word) => tally.count_call(&list, &call, word),
-                Err(what) => {
-                    let check = Check::Call(call);
-                    return Err(simplest::<A, B>(seed, index, what, list, check));
-                }
+                Err(what) => return Err(wrong(what, list, Check::Call(call))),
             }
         }
         let step = match list.len() {
@@ -221,10 +263,18 @@ pub fn compare<A: TripLists, B: TripLists>(
         };
         match laws::<B>(&list, step) {
             Ok(trips) => tally.count_list(&list, trips),
-            Err(what) => {
-                let check = Check::Laws { step };
-                return Err(simplest::<A, B>(seed, index, what, list, check));
-            }
+            Err(what) => return Err(wrong(what, list, Check::Laws { step })),
+        }
+
+        let [first, second] = random_pair(&mut rng);
+        let call = Call::join(&mut rng, second.clone());
+        match call.compare::<A, B>(&first) {
+            Ok(word) => tally.count_call(&first, &call, word),
+            Err(what) => return Err(wrong(what, first, Check::Call(call))),
+        }
+        match join_laws::<B>(&first, &second) {
+            Ok(common) => tally.count_pair(common),
+            Err(what) => return Err(wrong(what, first, Check::JoinLaws { second })),
         }
     }
     Ok(tally)

@@ -1,5 +1,8 @@
 //! What holds of one implementation, whatever another one says.
 
+use std::collections::BTreeMap;
+use std::ptr;
+
 use layout::{LIST_BYTES, TRIP_NUMBERS};
 use reference::trips::Trip;
 
@@ -10,6 +13,10 @@ use crate::trip_lists::TripLists;
 const TRIP: [u32; TRIP_NUMBERS] = [0x5a5a_5a5a; TRIP_NUMBERS];
 /// What a call finds in a buffer that it is lent.
 const BYTE: u8 = 0x5a;
+
+/// The answers of a join that is refused for what the two lists are together.
+const CONFLICT: u32 = 17 << 16;
+const TOO_LONG: u32 = 18 << 16;
 
 /// Holds the calls against each other on one list. Says what is wrong where
 ///
@@ -78,6 +85,91 @@ pub fn laws<L: TripLists>(list: &[u8], step: usize) -> Result<Option<usize>, Str
     Ok(Some(count))
 }
 
+/// Holds the joins of two lists against the other calls and each other. Says what
+/// is wrong where
+///
+/// - the first list with itself, or with the empty list, is joined otherwise than
+///   it is written;
+/// - the join is not refused as the first list is, then as the second;
+/// - of lists that are written, the join is not TRIP CONFLICT where the cursor
+///   finds different trips of a minute, else TRIPS TOO LONG where all trips
+///   together have no room, else all of them, whichever list comes first;
+/// - `read_trip` does not count the trips of the joined list, or that list with
+///   either of the two is joined otherwise than as it stands.
+///
+/// Answers the number of common trips, or nothing where the join is refused.
+pub fn join_laws<L: TripLists>(first: &[u8], second: &[u8]) -> Result<Option<usize>, String> {
+    let written = write::<L>(first)?;
+    for (one, two) in [(first, first), (first, b""), (b"", first)] {
+        joins_to::<L>(one, two, &written)?;
+    }
+    if let Err(word) = written.and(write::<L>(second)?) {
+        joins_to::<L>(first, second, &Err(word))?;
+        return Ok(None);
+    }
+
+    let (trips, other_trips) = (all_trips::<L>(first)?, all_trips::<L>(second)?);
+    let count = trips.len() + other_trips.len();
+    let mut union = BTreeMap::new();
+    let mut conflict = false;
+    for trip in trips.into_iter().chain(other_trips) {
+        let other = union.insert(trip.minute, trip);
+        conflict |= other.is_some_and(|other| other != trip);
+    }
+    let union: Vec<Trip> = union.into_values().collect();
+    let spelled = padded(&union, 0);
+    let expected = match spelled.len() {
+        _ if conflict => Err(CONFLICT),
+        0..=LIST_BYTES => Ok(spelled),
+        _ => Err(TOO_LONG),
+    };
+    joins_to::<L>(first, second, &expected)?;
+    joins_to::<L>(second, first, &expected)?;
+    let Ok(joined) = &expected else {
+        return Ok(None);
+    };
+    let word = L::read_trip(joined, 0, &mut TRIP.clone());
+    if word as usize != union.len() {
+        return Err(format!("read_trip answers {word:x}: {}", told(&expected)));
+    }
+    joins_to::<L>(joined, first, &expected)?;
+    joins_to::<L>(second, joined, &expected)?;
+    Ok(Some(count - union.len()))
+}
+
+/// Says what is wrong where two lists are joined otherwise.
+fn joins_to<L: TripLists>(
+    first: &[u8],
+    second: &[u8],
+    expected: &Result<Vec<u8>, u32>,
+) -> Result<(), String> {
+    let [one, two] = &[first, second].map(with_lf_behind);
+    // a list and itself are lent as the same memory
+    let two = if ptr::eq(first, second) { one } else { two };
+    let joined = filled("join_trips", |buffer| {
+        L::join_trips(&one[..first.len()], &two[..second.len()], buffer)
+    })?;
+    if joined == *expected {
+        return Ok(());
+    }
+    let (first, second) = (first.escape_ascii(), second.escape_ascii());
+    let (joined, expected) = (told(&joined), told(expected));
+    Err(format!(
+        "\"{first}\" joined with \"{second}\": {joined}, and not {expected}"
+    ))
+}
+
+/// The trips of a list that is accepted.
+fn all_trips<L: TripLists>(list: &[u8]) -> Result<Vec<Trip<'_>>, String> {
+    let (trips, end) = walk::<L>(list)?;
+    if end != 0 {
+        return Err(format!(
+            "the cursor ends with {end:x} on a list that is written"
+        ));
+    }
+    with_drivers(list, &trips)
+}
+
 /// The trips that the cursor gives from the start of the list on, and the word
 /// that ends them: 0 at the end of the list, or a refusal.
 fn walk<L: TripLists>(list: &[u8]) -> Result<(Vec<[u32; TRIP_NUMBERS]>, u32), String> {
@@ -105,7 +197,7 @@ fn walk<L: TripLists>(list: &[u8]) -> Result<(Vec<[u32; TRIP_NUMBERS]>, u32), St
     }
 }
 
-/// What is written, or the refusal.
+/// What is written, or the refusal, as text.
 fn told(written: &Result<Vec<u8>, u32>) -> String {
     match written {
         Ok(bytes) => format!("\"{}\"", bytes.escape_ascii()),
@@ -116,17 +208,25 @@ fn told(written: &Result<Vec<u8>, u32>) -> String {
 /// The bytes that are written, or the refusal.
 fn write<L: TripLists>(list: &[u8]) -> Result<Result<Vec<u8>, u32>, String> {
     let bytes = with_lf_behind(list);
-    let mut buffer = vec![BYTE; LIST_BYTES];
-    let word = L::write_trips(&bytes[..list.len()], &mut buffer);
+    filled("write_trips", |buffer| {
+        L::write_trips(&bytes[..list.len()], buffer)
+    })
+}
+
+/// The bytes that a call writes, or the refusal.
+fn filled(name: &str, call: impl FnOnce(&mut [u8]) -> u32) -> Result<Result<Vec<u8>, u32>, String> {
+    let came = [BYTE; LIST_BYTES];
+    let mut buffer = came;
+    let word = call(&mut buffer);
     let (written, rest) = match word {
         65_536.. => (Err(word), &buffer[..]),
         _ => match buffer.split_at_checked(word as usize) {
             Some((front, rest)) => (Ok(front.to_vec()), rest),
-            None => return Err(format!("write_trips counts {word} bytes")),
+            None => return Err(format!("{name} counts {word} bytes")),
         },
     };
-    if rest.iter().any(|&byte| byte != BYTE) {
-        return Err(format!("write_trips answers {word:x} and wrote more"));
+    if *rest != came[..rest.len()] {
+        return Err(format!("{name} answers {word:x} and wrote more"));
     }
     Ok(written)
 }

@@ -24,12 +24,7 @@ pub fn random_list(rng: &mut Rng) -> Vec<u8> {
     let length = length(rng);
     let mut list = rising_list(rng, length);
     for _ in 0..rng.weighted(&[40, 45, 15]) {
-        match rng.weighted(&[4, 4, 3, 4]) {
-            0 => spoil_byte(rng, &mut list),
-            1 => spoil_field(rng, &mut list),
-            2 => spoil_marks(rng, &mut list),
-            _ => spoil_order(rng, &mut list),
-        }
+        spoil(rng, &mut list);
     }
     list
 }
@@ -69,7 +64,7 @@ fn noise(rng: &mut Rng) -> Vec<u8> {
 // Lists that keep all rules
 
 /// How the lines of a list are made.
-struct Style {
+pub struct Style {
     /// Whether numbers have leading zeros.
     zeros: bool,
     /// Whether the lines are the shortest.
@@ -78,19 +73,65 @@ struct Style {
     step: usize,
 }
 
+impl Style {
+    pub fn random(rng: &mut Rng, zeros: bool) -> Style {
+        Style {
+            zeros,
+            short: rng.chance(25),
+            step: rng.pick(&[1, 1, 10, 1_000, 1 << 20, 1 << 31]),
+        }
+    }
+}
+
+/// A line.
+#[derive(Clone, Debug, PartialEq, Eq)]
+pub struct Line {
+    pub minute: u32,
+    pub metres: u32,
+    pub driver: Vec<u8>,
+    /// The digits that minute and metres are spelled with; no fewer than they have.
+    pub widths: [usize; 2],
+}
+
+impl Line {
+    pub fn length(&self) -> usize {
+        self.widths.iter().sum::<usize>() + self.driver.len() + MARKS
+    }
+}
+
+/// The text of some lines.
+pub fn spelled(lines: &[Line]) -> Vec<u8> {
+    let mut list = Vec::new();
+    for line in lines {
+        let [minute, metres] = line.widths;
+        let numbers = format!("{:0minute$},{:0metres$},", line.minute, line.metres);
+        list.extend(numbers.bytes());
+        list.extend(&line.driver);
+        list.push(b'\n');
+    }
+    list
+}
+
+/// The digits that a number has.
+pub fn width(number: u32) -> usize {
+    number.checked_ilog10().unwrap_or(0) as usize + 1
+}
+
 /// A list of rising minutes that has this length where that can be, else is
 /// shorter.
 fn rising_list(rng: &mut Rng, length: usize) -> Vec<u8> {
-    let style = Style {
-        zeros: rng.chance(50),
-        short: rng.chance(25),
-        step: rng.pick(&[1, 1, 10, 1_000, 1 << 20, 1 << 31]),
-    };
-    let mut list = Vec::new();
-    let mut next = Some(first_minute(rng, &style));
+    let zeros = rng.chance(50);
+    let style = Style::random(rng, zeros);
+    spelled(&rising_lines(rng, length, &style))
+}
+
+/// The lines of such a list.
+pub fn rising_lines(rng: &mut Rng, length: usize, style: &Style) -> Vec<Line> {
+    let mut lines = Vec::new();
+    let mut room = length;
+    let mut next = Some(first_minute(rng, style));
     while let Some(minute) = next {
-        let room = length - list.len();
-        let (least, most) = (least_line(minute), most_line(minute, &style));
+        let (least, most) = (least_line(minute), most_line(minute, style));
         if room < least {
             break;
         }
@@ -106,9 +147,10 @@ fn rising_list(rng: &mut Rng, length: usize) -> Vec<u8> {
             _ if room <= most => room,
             _ => room - reserve,
         };
-        list.extend(line(rng, minute, line_length, &style));
+        room -= line_length;
+        lines.push(line(rng, minute, line_length, style));
     }
-    list
+    lines
 }
 
 fn first_minute(rng: &mut Rng, style: &Style) -> u32 {
@@ -121,7 +163,7 @@ fn first_minute(rng: &mut Rng, style: &Style) -> u32 {
 }
 
 fn least_line(minute: u32) -> usize {
-    minute.to_string().len() + 2 + MARKS
+    width(minute) + 2 + MARKS
 }
 
 fn most_line(minute: u32, style: &Style) -> usize {
@@ -131,14 +173,14 @@ fn most_line(minute: u32, style: &Style) -> usize {
 fn most_widths(minute: u32, style: &Style) -> [usize; 3] {
     let minute = match style.zeros {
         true => DIGITS_MAX,
-        false => minute.to_string().len(),
+        false => width(minute),
     };
     [minute, DIGITS_MAX, DRIVER_MAX]
 }
 
 /// A line of this length.
-fn line(rng: &mut Rng, minute: u32, length: usize, style: &Style) -> Vec<u8> {
-    let mut widths = [minute.to_string().len(), 1, 1];
+fn line(rng: &mut Rng, minute: u32, length: usize, style: &Style) -> Line {
+    let mut widths = [width(minute), 1, 1];
     let most = most_widths(minute, style);
     while widths.iter().sum::<usize>() + MARKS < length {
         let field = rng.below(3);
@@ -148,11 +190,12 @@ fn line(rng: &mut Rng, minute: u32, length: usize, style: &Style) -> Vec<u8> {
         true => rng.between(1, widths[1]),
         false => widths[1],
     };
-    let metres = number_of_digits(rng, digits);
-    let driver = driver(rng, widths[2]);
-    let [minute_width, metres_width, _] = widths;
-    let numbers = format!("{minute:0minute_width$},{metres:0metres_width$},");
-    [numbers.as_bytes(), &driver, b"\n"].concat()
+    Line {
+        minute,
+        metres: number_of_digits(rng, digits),
+        driver: driver(rng, widths[2]),
+        widths: [widths[0], widths[1]],
+    }
 }
 
 /// A number that is spelled with this many digits.
@@ -169,13 +212,23 @@ fn number_of_digits(rng: &mut Rng, digits: usize) -> u32 {
     }
 }
 
-fn driver(rng: &mut Rng, length: usize) -> Vec<u8> {
+pub fn driver(rng: &mut Rng, length: usize) -> Vec<u8> {
     let characters: &[u8] = if rng.chance(20) { b"09AZ" } else { CHARACTERS };
     (0..length).map(|_| rng.pick(characters)).collect()
 }
 
 // ---------------------------------------------------------------------------
 // Faults
+
+/// Makes a fault, or what nearly is one.
+pub fn spoil(rng: &mut Rng, list: &mut Vec<u8>) {
+    match rng.weighted(&[4, 4, 3, 4]) {
+        0 => spoil_byte(rng, list),
+        1 => spoil_field(rng, list),
+        2 => spoil_marks(rng, list),
+        _ => spoil_order(rng, list),
+    }
+}
 
 /// A byte that neither a number nor a driver has.
 fn outside(rng: &mut Rng) -> u8 {
@@ -346,7 +399,7 @@ fn spoil_order(rng: &mut Rng, list: &mut Vec<u8>) {
 }
 
 /// The digits at the start.
-fn digits(bytes: &[u8]) -> &[u8] {
+pub fn digits(bytes: &[u8]) -> &[u8] {
     let end = bytes.iter().position(|byte| !byte.is_ascii_digit());
     &bytes[..end.unwrap_or(bytes.len())]
 }

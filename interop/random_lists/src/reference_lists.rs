@@ -100,5 +100,11 @@ mod tests {
         assert_eq!(Reference::write_trips(list, &mut buffer), 20);
         assert_eq!(buffer[..21], *b"5,1200,ANNA\n17,0,B7\n\xaa");
         assert_eq!(Reference::write_trips(b"", &mut [0; 9]), 2 << 16);
+        let other = b"6,1,C\n17,0,B7\n";
+        assert_eq!(Reference::join_trips(list, other, &mut buffer), 26);
+        assert_eq!(buffer[..27], *b"5,1200,ANNA\n6,1,C\n17,0,B7\n\xaa");
+        let conflict = Reference::join_trips(list, b"5,1200,BOB\n", &mut buffer);
+        assert_eq!(conflict, 17 << 16);
+        assert_eq!(Reference::join_trips(b"", b"", &mut [0; 9]), 2 << 16);
     }
 }

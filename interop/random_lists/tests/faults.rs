@@ -1,16 +1,23 @@
 //! The comparison finds an implementation with a fault.
 
-use layout::{LIST_BYTES, TRIP_NUMBERS};
-use random_calls::{faults_found, Reference};
-use random_lists::{compare, Call, Check, TripLists};
+use std::collections::BTreeMap;
 
+use layout::{LIST_BYTES, TRIP_NUMBERS};
+use random_calls::{faults_found, word, Reference};
+use random_lists::{compare, Call, Check, TripLists};
+use reference::store::Answer;
+use reference::trips::{joined, spelling, trips, Trip};
+
+const RANGE: u32 = 7 << 16;
 const FORM: u32 = 10 << 16;
 const ORDER: u32 = 11 << 16;
+const CONFLICT: u32 = 17 << 16;
+const TOO_LONG: u32 = 18 << 16;
 
 /// The reference, with one fault.
 struct Faulty<const FAULT: usize>;
 
-const FAULTS: usize = 34;
+const FAULTS: usize = 56;
 
 /// The bytes between two LF.
 fn lines(list: &[u8]) -> impl Iterator<Item = &[u8]> {
@@ -132,11 +139,138 @@ fn respell(
     text.len() as u32
 }
 
+/// The lines of a list before the first bad one.
+fn sound_lines(list: &[u8]) -> Vec<u8> {
+    let lines: Vec<&[u8]> = lines(list).collect();
+    let counts: Vec<usize> = (1..=lines.len()).collect();
+    let sound = |&count: &usize| trips(&lines[..count].concat()).is_ok();
+    lines[..counts.partition_point(sound)].concat()
+}
+
+/// The trips of both lists by minute, those of the first where both have one;
+/// none where two are not alike.
+fn merged<'a>(
+    one: &[Trip<'a>],
+    two: &[Trip<'a>],
+    alike: impl Fn(Trip<'a>, Trip<'a>) -> bool,
+) -> Option<Vec<Trip<'a>>> {
+    let mut all: BTreeMap<u32, Trip> = two.iter().map(|&trip| (trip.minute, trip)).collect();
+    for &trip in one {
+        match all.insert(trip.minute, trip) {
+            Some(other) if !alike(trip, other) => return None,
+            _ => {}
+        }
+    }
+    Some(all.into_values().collect())
+}
+
+/// Writes these trips into the buffer as it came, and counts the bytes.
+fn put(trips: &[Trip], came: &[u8], buffer: &mut [u8]) -> u32 {
+    let bytes = spelling(trips);
+    if bytes.len() > LIST_BYTES {
+        return TOO_LONG;
+    }
+    buffer.copy_from_slice(came);
+    buffer[..bytes.len()].copy_from_slice(&bytes);
+    bytes.len() as u32
+}
+
+/// The join of two lists that are sound, with a fault. The answer is that of a
+/// join without one, and the buffer is as that left it.
+fn faulty_join<const FAULT: usize>(
+    [first, second]: [&[u8]; 2],
+    answer: u32,
+    came: &[u8],
+    buffer: &mut [u8],
+) -> u32 {
+    let (one, two) = (trips(first).unwrap(), trips(second).unwrap());
+    let (last_one, last_two) = (one.last().copied(), two.last().copied());
+    let done = answer < 65_536;
+    let all = merged(&one, &two, |_, _| true).unwrap();
+    let mut join_alike = |alike: &dyn Fn(Trip, Trip) -> bool| match merged(&one, &two, alike) {
+        Some(trips) => put(&trips, came, buffer),
+        None => CONFLICT,
+    };
+    match FAULT {
+        // on a conflict the trip of the first list is taken: on each, where the
+        // metres differ, where the driver does, where it does late, at the end
+        38 => join_alike(&|_, _| true),
+        39 => join_alike(&|one, two| one.driver == two.driver),
+        40 => join_alike(&|one, two| one.metres == two.metres),
+        41 => join_alike(&|one, two| {
+            one.metres == two.metres && one.driver.iter().take(8).eq(two.driver.iter().take(8))
+        }),
+        42 => join_alike(&|one, two| one == two || (Some(one), Some(two)) == (last_one, last_two)),
+        // trips that are spelled otherwise are others
+        43 if done => {
+            let spelled_alike = lines(first).all(|line| {
+                let other = lines(second).find(|other| minute(other) == minute(line));
+                other.is_none_or(|other| other == line)
+            });
+            if !spelled_alike {
+                buffer.copy_from_slice(came);
+                return CONFLICT;
+            }
+            answer
+        }
+        // 18 comes before 17
+        44 if spelling(&all).len() > LIST_BYTES => TOO_LONG,
+        // trips of both are written twice
+        45 if done => {
+            let mut twice = [one, two].concat();
+            twice.sort_by_key(|trip| trip.minute);
+            put(&twice, came, buffer)
+        }
+        // the tail of either list is dropped
+        46 | 47 if done => {
+            let last = if FAULT == 46 { last_one } else { last_two };
+            let kept = all
+                .into_iter()
+                .filter(|trip| last.is_none_or(|last| trip.minute <= last.minute));
+            put(&kept.collect::<Vec<_>>(), came, buffer)
+        }
+        // one list behind the other
+        48 if done => {
+            let others = two.into_iter().filter(|trip| !one.contains(trip));
+            put(&[one.clone(), others.collect()].concat(), came, buffer)
+        }
+        // refusing, it has written
+        49 if answer == CONFLICT => {
+            buffer[0] = buffer[0].wrapping_add(1);
+            answer
+        }
+        50 if answer == TOO_LONG => {
+            buffer.copy_from_slice(&spelling(&all)[..LIST_BYTES]);
+            answer
+        }
+        // the limit is one byte off
+        51 if answer == LIST_BYTES as u32 => {
+            buffer.copy_from_slice(came);
+            TOO_LONG
+        }
+        52 if answer == TOO_LONG && spelling(&all).len() == LIST_BYTES + 1 => {
+            buffer.copy_from_slice(&spelling(&all)[..LIST_BYTES]);
+            LIST_BYTES as u32
+        }
+        // the lengths of both lists together count
+        53 if done && first.len() + second.len() > LIST_BYTES => {
+            buffer.copy_from_slice(came);
+            TOO_LONG
+        }
+        // the rest of the buffer is cleared
+        54 if done => {
+            buffer[answer as usize..].fill(0);
+            answer
+        }
+        _ => answer,
+    }
+}
+
 impl<const FAULT: usize> TripLists for Faulty<FAULT> {
     fn read_trip(list: &[u8], place: usize, trip: &mut [u32]) -> u32 {
         // RANGE before SHAPE
         if FAULT == 15 && list.len() > LIST_BYTES {
-            return 7 << 16;
+            return RANGE;
         }
         let place = match FAULT {
             16 => place as u32 as usize,
@@ -234,19 +368,69 @@ impl<const FAULT: usize> TripLists for Faulty<FAULT> {
         }
         word
     }
+
+    fn join_trips(first: &[u8], second: &[u8], buffer: &mut [u8]) -> u32 {
+        let (first, second) = (&*seen::<FAULT>(first), &*seen::<FAULT>(second));
+        let came = buffer.to_vec();
+        let shape = buffer.len() == LIST_BYTES;
+        match FAULT {
+            // SHAPE comes last
+            35 => {
+                if let Err(refusal) = joined(first, second) {
+                    return word(Answer::Refused(refusal));
+                }
+            }
+            // the second list is checked before the first
+            36 => return Reference::join_trips(second, first, buffer),
+            // the lengths of both come before their lines
+            37 if shape && second.len() > LIST_BYTES => return RANGE,
+            _ => {}
+        }
+        let answer = Reference::join_trips(first, second, buffer);
+        match answer {
+            0..65_536 | CONFLICT | TOO_LONG => {
+                faulty_join::<FAULT>([first, second], answer, &came, buffer)
+            }
+            // a conflict, or that the join is too long, is told before a bad line
+            // behind it
+            FORM | ORDER if FAULT == 55 || FAULT == 56 => {
+                let early = [CONFLICT, TOO_LONG][FAULT - 55];
+                let [first, second] = [first, second].map(sound_lines);
+                let found = Reference::join_trips(&first, &second, &mut [0; LIST_BYTES]);
+                if found == early {
+                    early
+                } else {
+                    answer
+                }
+            }
+            _ => answer,
+        }
+    }
 }
 
 #[test]
 fn an_implementation_equals_itself_and_gives_every_answer() {
     let tally = compare::<Reference, Faulty<0>>(1, 4_000).unwrap();
-    assert_eq!((tally.lists, tally.calls()), (4_000, 32_000));
+    assert_eq!((tally.lists, tally.pairs), (4_000, 4_000));
+    assert_eq!(tally.calls(), 36_000);
     assert!((1_000..3_000).contains(&tally.accepted), "{tally:?}");
+    assert!((500..3_000).contains(&tally.common), "{tally:?}");
     assert_eq!(tally.missing(), [""; 0]);
-    for name in ["read_trip", "next_trip", "write_trips"] {
+    let of_each: &[usize] = &[0, 2, 7, 10, 11];
+    for (name, numbers) in [
+        ("read_trip", of_each),
+        ("next_trip", of_each),
+        ("write_trips", of_each),
+        ("join_trips", &[0, 2, 7, 10, 11, 17, 18]),
+    ] {
         let answers = tally.of(name);
-        for number in [0, 2, 7, 10, 11] {
+        for &number in numbers {
             assert!(answers[number] > 50, "{name}: {answers:?}");
         }
+        assert_eq!(
+            numbers.iter().map(|&number| answers[number]).sum::<usize>(),
+            answers.iter().sum()
+        );
     }
 }
 
@@ -260,7 +444,8 @@ fn few_lists_do_not_give_every_answer() {
 fn every_fault_is_found() {
     let found = faults_found!(Reference, 8_000:
         1 2 3 4 5 6 7 8 9 10 11 12 13 14 15 16 17 18 19 20
-        21 22 23 24 25 26 27 28 29 30 31 32 33 34
+        21 22 23 24 25 26 27 28 29 30 31 32 33 34 35 36 37 38 39 40
+        41 42 43 44 45 46 47 48 49 50 51 52 53 54 55 56
     );
     assert_eq!(found, [true; FAULTS]);
 }
@@ -269,9 +454,10 @@ fn every_fault_is_found() {
 #[test]
 fn some_faults_are_found_beside_themselves() {
     let found = faults_found!(itself, 8_000:
-        10 17 18 19 20 21 22 23 25 26 28 29 30 31 33 34
+        10 17 18 19 20 21 22 23 25 26 28 29 30 31 33 34 36 37 38 43
+        44 45 46 48 49 51 53 54 55 56
     );
-    assert_eq!(found, [true; 16]);
+    assert_eq!(found, [true; 30]);
 }
 
 #[test]
@@ -295,4 +481,29 @@ fn a_difference_is_told_in_its_simplest_form() {
     let difference = compare::<Faulty<28>, Faulty<28>>(1, 8_000).unwrap_err();
     assert_eq!(difference.list, b"0,0,0\n");
     assert_eq!(difference.check, Check::Laws { step: 1 });
+}
+
+#[test]
+fn a_difference_on_two_lists_is_told_in_its_simplest_form() {
+    // drivers of one minute that differ
+    let difference = compare::<Reference, Faulty<40>>(1, 8_000).unwrap_err();
+    let Check::Call(Call::JoinTrips { second, buffer }) = &difference.check else {
+        panic!("{difference}");
+    };
+    for list in [&difference.list, second] {
+        assert!(list.starts_with(b"0,") && list.len() == 6, "{difference}");
+    }
+    assert_eq!(*buffer, [1; LIST_BYTES]);
+    let text = difference.to_string();
+    assert!(text.contains("\njoin_trips with 6 bytes: \"0,"), "{text}");
+    assert!(
+        text.contains("buffer of 4096: 4096 x 01\non 6 bytes: \"0,"),
+        "{text}"
+    );
+
+    // by a law: one list behind the other
+    let difference = compare::<Faulty<48>, Faulty<48>>(1, 8_000).unwrap_err();
+    let second = b"0,0,0\n".to_vec();
+    assert_eq!(difference.list, b"1,0,0\n");
+    assert_eq!(difference.check, Check::JoinLaws { second });
 }
