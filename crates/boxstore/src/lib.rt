@@ -286,7 +286,11 @@ pub extern "C" fn boxstore_write_trips(list: &[u8], buffer: &mut [u8]) -> u32
 
 // Join trips: two lists as one in its one spelling, at the front of the buffer; counts its bytes.
 #[no_mangle]
-pub extern "C" fn boxstore_join_trips(first: &[u8], second: &[u8], buffer: &mut [u8]) -> u32
+pub extern "C" fn boxstore_join_trips<'a>(
+    first: &'a [u8],
+    second: &'a [u8],
+    buffer: &mut [u8],
+) -> u32
     ensures { λ r. ⌜ reply r (now (buffer .exit)) ≡ inWord (joinTrips (now (first .entry)) (now (second .entry)) (now (buffer .entry))) ⌝ }
 {
     answer_word(trip_writer::join(first, second, buffer))

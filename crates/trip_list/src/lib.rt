@@ -128,13 +128,13 @@ fn driver_in_front(text: &[u8]) -> Driver
 // The line in front of a text. The other fields tell of it where it has the form.
 pub struct Line {
     pub fits: bool,
-    pub minute: usize,
     pub metres: usize,
-    // Where in the line the metres begin.
-    pub second: usize,
-    // Where the driver begins there, and its length.
-    pub driver: usize,
+    // The length of the driver.
     pub letters: usize,
+    pub minute: usize,
+    // Where in the line the metres and the driver begin.
+    pub second: usize,
+    pub driver: usize,
     // With its LF.
     pub length: usize,
 }

@@ -3,7 +3,7 @@ use mathlib.Core.Path.{_≡_, refl, sym, ap, _∙_}
 use mathlib.Core.Bool.{Bool, true, false}
 use mathlib.Core.List.{List, []}
 use mathlib.Core.Logic.{_≢_}
-use Prim.Native.Nat.{ℕ, _+_, _*_, _≤_, _<_, max}
+use Prim.Native.Nat.{ℕ, _≤_, _<_, min, max}
 use native.Mathlib.Omega.{arith}
 use lib.ListN.{length, take}
 use borrow.Author.Tests.{eq-eqb, ne-eqb, eqb-true, le-leb, lt-leb}
@@ -12,19 +12,16 @@ use Rattle.answer.specs.Coded.{Coded, done, SHAPE, TRIP-CONFLICT, TRIPS-TOO-LON
 use Rattle.answer.specs.Admission.{ifDone}
 use Rattle.memory.specs.Bytes.{overwrite}
 use Rattle.scan.proofs.Scan.{is-false}
-use Rattle.trip_list.specs.declared.Line as line
 use Rattle.trip_list.specs.Trip.{spell}
 use Rattle.trip_list.specs.List.{Parsed, trips, parse, parseFrom, tripsOf, greatestList, answerOf, listAnswer, spelling, writeAnswer, written}
-use Rattle.trip_list.specs.Scanner.{greatestLine}
 use Rattle.trip_list.proofs.Claims.{trips-valid, never-longer}
 use Rattle.trip_list.proofs.Parsing.{accepted-short, accepted, list-parsed}
 use Rattle.trip_list.proofs.Walking.{write-answer}
 use Rattle.trip_join.specs.Join.{isDone, joinedText, joinAnswer, joined}
 use Rattle.trip_join.proofs.Claims.{join-none}
-use Rattle.trip_writer.specs.declared.Place as place
 use Rattle.trip_writer.specs.declared.Stage as stage
-use Rattle.trip_writer.specs.Joining.{noMinute, Trips, Headed, Joining, asFirst, Placed, Spelt}
-use Rattle.trip_writer.proofs.Joining.{joining-start, first-placed, walk-refused, Ended, ended}
+use Rattle.trip_writer.specs.Joining.{noMinute, Trips, Joining}
+use Rattle.trip_writer.proofs.Joining.{walk-refused, Ended, ended}
 
 -- ---- accepted lists
 
@@ -94,45 +91,28 @@ module _ (x y buffer : List ℕ) (h : length buffer ≡ greatestList) where
 
 -- ---- the writer: a list joined with no other
 
--- the head of the empty list
-abbrev noLine : line.Line
-noLine = record { fits = false; minute = noMinute; metres = 0; second = 0; driver = 0; letters = 0; length = 0 }
-
-none-headed : Headed [] 0 0 noLine
-none-headed = record { small = omega arith; line = λ l. absurd (omega arith); none = λ _ l. absurd (omega arith) }
-
 alone : (list : List ℕ) → joinedText list [] ≡ spelling list
 unfolding parse parseFrom
 alone list = ap spell (join-none (tripsOf (parse list)) (trips-valid list))
 
-module _ (list : List ℕ) (short : length list ≤ greatestList) (xs : List ℕ) (room : greatestList + 2 * greatestLine ≤ length xs) (h : line.Line) (d : Headed list 0 0 h) where
-  start : Joining list [] xs (record { i = 0; a = h; j = 0; b = noLine; end = 0; agree = true })
-  start = joining-start list [] xs h noLine d none-headed short (omega arith) room
+module _ (list : List ℕ) (short : length list ≤ greatestList) (ys : List ℕ) (s : stage.Stage) (w : Joining list [] ys s) (none : noMinute ≤ min (s .a .minute) (s .b .minute)) where
+  over : length list ≤ s .i → Ended list [] ys s
+  over o = ended list [] ys s w none o (omega arith)
 
-  pub start-placed : Placed list xs (record { at = 0; line = h; end = 0 })
-  start-placed = first-placed list [] xs _ start
+  pub spelled-fits : length list ≤ s .i → s .end ≤ greatestList
+  spelled-fits o = omega (arith, over o .ends, ap length (alone list), never-longer list)
 
-  module _ (ys : List ℕ) (q : place.Place) (s : Spelt list noMinute xs (record { at = 0; line = h; end = 0 }) ys q) (stops : noMinute ≤ q .line .minute) where
-    spelled : Joining list [] ys (asFirst q 0 noLine true)
-    spelled = s .first [] 0 noLine true (omega arith) start
+  module _ (buffer : List ℕ) (shape : length buffer ≡ greatestList) where
+    pub write-refused : s .i < length list → (a : Coded) → a ≡ listAnswer list → (a ≡ writeAnswer list buffer) × (buffer ≡ written list buffer)
+    unfolding written
+    write-refused inside a e =
+        let n : isDone (listAnswer list) ≡ false = is-false _ (λ f. walk-refused list (s .i) (s .a) (w .first) (omega arith) inside (trips-done list f)) in
+        let v = write-answer list buffer shape a (e ∙ rw n) in
+        (v, rw (← v, e, n))
 
-    over : length list ≤ q .at → Ended list [] ys (asFirst q 0 noLine true)
-    over o = ended list [] ys _ spelled (omega arith) o (omega arith)
-
-    pub spelled-fits : length list ≤ q .at → q .end ≤ greatestList
-    spelled-fits o = omega (arith, over o .ends, ap length (alone list), never-longer list)
-
-    module _ (buffer : List ℕ) (shape : length buffer ≡ greatestList) where
-      pub write-refused : q .at < length list → (a : Coded) → a ≡ listAnswer list → (a ≡ writeAnswer list buffer) × (buffer ≡ written list buffer)
-      unfolding written
-      write-refused inside a e =
-          let n : isDone (listAnswer list) ≡ false = is-false _ (λ f. walk-refused list (q .at) (q .line) (spelled .first) stops inside (trips-done list f)) in
-          let w = write-answer list buffer shape a (e ∙ rw n) in
-          (w, rw (← w, e, n))
-
-      pub write-done : length list ≤ q .at → (zs : List ℕ) → zs ≡ overwrite buffer 0 (take (q .end) ys) → (done (q .end) ≡ writeAnswer list buffer) × (zs ≡ written list buffer)
-      unfolding written
-      write-done o zs e =
-          let k = over o in
-          let w = write-answer list buffer shape (done (q .end)) (ap done (k .ends ∙ ap length (alone list)) ∙ rw (done-trips list short (k .first))) in
-          (w, e ∙ rw (← w) (ap (overwrite buffer 0) (k .laid (spelled-fits o) ∙ alone list)))
+    pub write-done : length list ≤ s .i → (zs : List ℕ) → zs ≡ overwrite buffer 0 (take (s .end) ys) → (done (s .end) ≡ writeAnswer list buffer) × (zs ≡ written list buffer)
+    unfolding written
+    write-done o zs e =
+        let k = over o in
+        let v = write-answer list buffer shape (done (s .end)) (ap done (k .ends ∙ ap length (alone list)) ∙ rw (done-trips list short (k .first))) in
+        (v, e ∙ rw (← v) (ap (overwrite buffer 0) (k .laid (spelled-fits o) ∙ alone list)))

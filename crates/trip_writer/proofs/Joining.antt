@@ -3,7 +3,7 @@ use mathlib.Core.Path.{_≡_, refl, sym, ap, _∙_}
 use mathlib.Core.Bool.{Bool, true, false, cond, _&&_, false≢true}
 use mathlib.Core.List.{List, [], _∷_, _++_, append-assoc, append-nil}
 use mathlib.Core.Logic.{_≢_}
-use Prim.Native.Nat.{ℕ, _+_, _-_, _*_, _≤_, _<_, min}
+use Prim.Native.Nat.{ℕ, _+_, _-_, _*_, _≤_, _<_, min, max}
 use native.Mathlib.Omega.{arith}
 use lib.ListN.{length, take, drop, length-append, length-drop}
 use lib.Seq.{drop-drop}
@@ -333,6 +333,12 @@ module _ (x y xs : List ℕ) (s : stage.Stage) (w : Joining x y xs s) where
   pub second-placed : Placed y xs (record { at = s .j; line = s .b; end = s .end })
   second-placed = record { head = w .second; short = w .small .1; small = omega (arith, w .shorter, w .first .within, w .small); room = w .small .2 }
 
+  -- one of both
+  pub picked-placed : (g : Bool) (list : List ℕ) (q : place.Place) → list ≡ cond g y x → q ≡ cond g (record { at = s .j; line = s .b; end = s .end }) (record { at = s .i; line = s .a; end = s .end })
+      → Placed list xs q
+  picked-placed true list q el eq = rw (el, eq) second-placed
+  picked-placed false list q el eq = rw (el, eq) first-placed
+
   pub first-here : s .a .minute < noMinute → LineAt x (s .i) (s .a)
   first-here some = line-here x (s .i) (s .a) (w .first) some
 
@@ -342,6 +348,20 @@ module _ (x y xs : List ℕ) (s : stage.Stage) (w : Joining x y xs s) where
   -- the next index is within the list
   pub second-on : s .b .minute < noMinute → (s .j < s .j + s .b .length) × (s .j + s .b .length ≤ greatestList)
   second-on some = (next-on y (s .j) (s .b) (w .second) some, omega (arith, next-within y (s .j) (s .b) (w .second) some, w .small .1))
+
+-- lines of one of both lists were spelled
+module _ (x y xs ys : List ℕ) (s : stage.Stage) (w : Joining x y xs s) (list : List ℕ) (limit : ℕ) (p q : place.Place) (e : Spelt list limit xs p ys q) (stops : limit ≤ q .line .minute) where
+  pub second-spelt : list ≡ y → p ≡ record { at = s .j; line = s .b; end = s .end } → limit ≡ max (s .a .minute) (s .b .minute) → s .b .minute < s .a .minute
+      → Joining x y ys (asSecond q (s .i) (s .a) (s .agree)) × (s .i + s .j < s .i + q .at)
+  second-spelt el ep em less =
+      let t : Spelt y limit xs (record { at = s .j; line = s .b; end = s .end }) ys q = rw (← el, ← ep) e in
+      (t .second x (s .i) (s .a) (s .agree) (omega arith) w, omega (arith, t .on (omega arith) stops))
+
+  pub first-spelt : list ≡ x → p ≡ record { at = s .i; line = s .a; end = s .end } → limit ≡ max (s .a .minute) (s .b .minute) → s .a .minute < s .b .minute
+      → Joining x y ys (asFirst q (s .j) (s .b) (s .agree)) × (s .i + s .j < q .at + s .j)
+  first-spelt el ep em less =
+      let t : Spelt x limit xs (record { at = s .i; line = s .a; end = s .end }) ys q = rw (← el, ← ep) e in
+      (t .first y (s .j) (s .b) (s .agree) (omega arith) w, omega (arith, t .on (omega arith) stops))
 
 -- ---- both lists are at their ends
 

@@ -4,7 +4,7 @@ use answer::Refusal;
 use trip_list::Line;
 use trip_list::Step;
 ghost use mathlib.Core.Path.{_≡_};
-ghost use mathlib.Core.Bool.{_&&_};
+ghost use mathlib.Core.Bool.{cond, _&&_};
 ghost use mathlib.Core.List.{_++_};
 ghost use Prim.Native.Nat.{_+_, _-_, _*_, _≤_, _<_, min};
 ghost use lib.ListN.{length, take, drop};
@@ -186,36 +186,6 @@ fn spell_below(list: &[u8], place: Place, limit: usize, output: &mut [u8]) -> Pl
     Place { at, line, end }
 }
 
-// ---- a list
-
-// Writes the one spelling of a list to the front of a buffer of 4,096 bytes, and counts its bytes. It is spelled into an array
-// first: a bad line must leave the buffer as it came.
-pub fn write(list: &[u8], buffer: &mut [u8]) -> Answer
-    ensures { λ r. ⌜ (coded r ≡ writeAnswer (now (list .entry)) (now (buffer .entry)))
-        × (now (buffer .exit) ≡ written (now (list .entry)) (now (buffer .entry))) ⌝ }
-{
-    if buffer.len() != MAX_LIST {
-        return Answer::Refused(Refusal::Shape);
-    }
-    if list.len() > MAX_LIST {
-        return Answer::Refused(Refusal::Range);
-    }
-    let mut spelled = [0u8; ROOM];
-    let line = head(list, 0, 0);
-    let start = Place {
-        at: 0,
-        line,
-        end: 0,
-    };
-    let place = spell_below(list, start, NO_MINUTE, &mut spelled);
-    if place.at < list.len() {
-        return trip_list::check(list);
-    }
-    let end = place.end;
-    memory::copy(buffer, &spelled[..end]);
-    Answer::Done(end)
-}
-
 // ---- two lists
 
 fn same_bytes(a: &[u8], b: &[u8]) -> bool
@@ -267,9 +237,21 @@ fn both(a: bool, b: bool) -> bool
     if a { b } else { false }
 }
 
+fn pick_list<'a>(first: bool, a: &'a [u8], b: &'a [u8]) -> &'a [u8]
+    ensures { λ r. ⌜ now r ≡ cond first (now (a .entry)) (now (b .entry)) ⌝ }
+{
+    if first { a } else { b }
+}
+
+fn pick_place(first: bool, a: Place, b: Place) -> Place
+    ensures { λ r. ⌜ r ≡ cond first a b ⌝ }
+{
+    if first { a } else { b }
+}
+
 // The next trips of the join: those of one list that come before the next of the other. Of two of one minute the second list's is
 // left out.
-fn join_next(first: &[u8], second: &[u8], s: Stage, output: &mut [u8]) -> Stage
+fn join_next<'a>(first: &'a [u8], second: &'a [u8], s: Stage, output: &mut [u8]) -> Stage
     requires { ⌜ Joining (now first) (now second) (now output) s × (min (s .a .minute) (s .b .minute) < noMinute) ⌝ }
     ensures { λ r. ⌜ Joining (now (first .entry)) (now (second .entry)) (now (output .exit)) r × (s .i + s .j < r .i + r .j) ⌝ }
 {
@@ -278,31 +260,37 @@ fn join_next(first: &[u8], second: &[u8], s: Stage, output: &mut [u8]) -> Stage
     let j = s.j;
     let b = s.b;
     let end = s.end;
-    if a.minute < b.minute {
-        let start = Place {
-            at: i,
-            line: a,
-            end,
-        };
-        let place = spell_below(first, start, b.minute, output);
-        let line = place.line;
+    if a.minute == b.minute {
+        let agree = both(s.agree, same_rest(first, i, a, second, j, b));
+        let next = j + b.length;
+        let line = head(second, next, b.minute + 1);
         return Stage {
-            i: place.at,
-            a: line,
-            j,
-            b,
-            end: place.end,
-            agree: s.agree,
+            i,
+            a,
+            j: next,
+            b: line,
+            end,
+            agree,
         };
     }
-    if b.minute < a.minute {
-        let start = Place {
-            at: j,
-            line: b,
-            end,
-        };
-        let place = spell_below(second, start, a.minute, output);
-        let line = place.line;
+    let swap = b.minute < a.minute;
+    let mine = Place {
+        at: i,
+        line: a,
+        end,
+    };
+    let theirs = Place {
+        at: j,
+        line: b,
+        end,
+    };
+    // One call for both lists.
+    let list = pick_list(swap, second, first);
+    let start = pick_place(swap, theirs, mine);
+    let limit = number::max(a.minute, b.minute);
+    let place = spell_below(list, start, limit, output);
+    let line = place.line;
+    if swap {
         return Stage {
             i,
             a,
@@ -312,16 +300,13 @@ fn join_next(first: &[u8], second: &[u8], s: Stage, output: &mut [u8]) -> Stage
             agree: s.agree,
         };
     }
-    let agree = both(s.agree, same_rest(first, i, a, second, j, b));
-    let next = j + b.length;
-    let line = head(second, next, b.minute + 1);
     Stage {
-        i,
-        a,
-        j: next,
-        b: line,
-        end,
-        agree,
+        i: place.at,
+        a: line,
+        j,
+        b,
+        end: place.end,
+        agree: s.agree,
     }
 }
 
@@ -336,7 +321,7 @@ fn next_minute(s: Stage) -> usize
 
 // The one spelling of the join of two lists is laid over the front of the output, up to its end or that of the longest list. Each list
 // is gone through to its end or to the first line that is refused.
-fn join_lines(first: &[u8], second: &[u8], output: &mut [u8]) -> Stage
+fn join_lines<'a>(first: &'a [u8], second: &'a [u8], output: &mut [u8]) -> Stage
     requires { ⌜ (length (now first) ≤ greatestList) × (length (now second) ≤ greatestList) × (greatestList + 2 * greatestLine ≤ length (now output)) ⌝ }
     ensures { λ r. ⌜ Joining (now (first .entry)) (now (second .entry)) (now (output .exit)) r × (noMinute ≤ min (r .a .minute) (r .b .minute)) ⌝ }
 {
@@ -356,6 +341,30 @@ fn join_lines(first: &[u8], second: &[u8], output: &mut [u8]) -> Stage
     s
 }
 
+// ---- the writer
+
+// Writes the one spelling of a list to the front of a buffer of 4,096 bytes, and counts its bytes. It is spelled into an array
+// first: a bad line must leave the buffer as it came. A list joined with no other is its own spelling.
+pub fn write(list: &[u8], buffer: &mut [u8]) -> Answer
+    ensures { λ r. ⌜ (coded r ≡ writeAnswer (now (list .entry)) (now (buffer .entry)))
+        × (now (buffer .exit) ≡ written (now (list .entry)) (now (buffer .entry))) ⌝ }
+{
+    if buffer.len() != MAX_LIST {
+        return Answer::Refused(Refusal::Shape);
+    }
+    if list.len() > MAX_LIST {
+        return Answer::Refused(Refusal::Range);
+    }
+    let mut spelled = [0u8; ROOM];
+    let s = join_lines(list, &list[..0], &mut spelled);
+    if s.i < list.len() {
+        return trip_list::check(list);
+    }
+    let end = s.end;
+    memory::copy(buffer, &spelled[..end]);
+    Answer::Done(end)
+}
+
 // The refusal of two lists of which one is refused: the first one's before the second one's.
 fn refused(first: &[u8], second: &[u8]) -> Answer
     ensures { λ r. ⌜ coded r ≡ ifDone (listAnswer (now (first .entry))) (listAnswer (now (second .entry))) (listAnswer (now (first .entry))) ⌝ }
@@ -369,7 +378,7 @@ fn refused(first: &[u8], second: &[u8]) -> Answer
 
 // Writes the join of two lists, in its one spelling, to the front of a buffer of 4,096 bytes, and counts its bytes. It is spelled into
 // an array first, as a list is that is written.
-pub fn join(first: &[u8], second: &[u8], buffer: &mut [u8]) -> Answer
+pub fn join<'a>(first: &'a [u8], second: &'a [u8], buffer: &mut [u8]) -> Answer
     ensures { λ r. ⌜ (coded r ≡ joinAnswer (now (first .entry)) (now (second .entry)) (now (buffer .entry)))
         × (now (buffer .exit) ≡ joined (now (first .entry)) (now (second .entry)) (now (buffer .entry))) ⌝ }
 {
