@@ -1,7 +1,7 @@
 -- A walk over a list, line after line: what the code's loops have shown so far, and what they give at the end.
 use mathlib.Core.Path.{_≡_, refl, sym, ap, _∙_}
 use mathlib.Core.Bool.{true, cond, false≢true}
-use mathlib.Core.List.{List, [], _∷_, _++_, append-assoc, append-nil}
+use mathlib.Core.List.{List, [], _∷_, _++_, append-assoc}
 use mathlib.Core.Logic.{_≢_}
 use Prim.Native.Nat.{ℕ, zero, suc, _+_, _≤_, _<_}
 use native.Mathlib.Omega.{arith}
@@ -18,7 +18,7 @@ use Rattle.answer.specs.declared.Refusal.{Refusal}
 use Rattle.answer.specs.Coded.{Coded, coded, done, codedRefusal, SHAPE, RANGE}
 use Rattle.answer.specs.Admission.{firstRefusal, ifDone}
 use Rattle.answer.proofs.Coded.{refusal-number}
-use Rattle.memory.specs.Bytes.{part, overwrite}
+use Rattle.memory.specs.Bytes.{part}
 use Rattle.memory.proofs.Cases.{split-eq}
 use Rattle.text.specs.Marks.{LF, comma}
 use Rattle.trip_list.specs.declared.Trip as code
@@ -27,13 +27,10 @@ use Rattle.trip_list.specs.Trip.{Trip, trip, spellTrip, spell, tripOf}
 use Rattle.trip_list.specs.List.{Parsed, trips, refusal, before, parseFrom, parse, tripsOf, greatestList, answerOf, listAnswer, spelling, writeAnswer, written}
 use Rattle.trip_list.specs.Lines.{hasLine, firstTrip, lineLength, driverStart, lineStart}
 use Rattle.trip_list.specs.Lookup.{located, given, inList, readTrip, lineTests, nextAnswer, nextTrip}
-use Rattle.trip_list.specs.declared.Step.{Step}
-use Rattle.trip_list.specs.declared.Step.the-variants.{At, Refused}
-use Rattle.trip_list.specs.Scanner.{LineAt, Stopped, tripAt, spelledLine, Surveyed}
+use Rattle.trip_list.specs.Scanner.{LineAt, Stopped, tripAt, Surveyed}
 use Rattle.trip_list.proofs.Lines.{minuteOf, metresOf, driverOf, texts, line-driver}
 use Rattle.trip_list.proofs.Claims.{never-longer}
 use Rattle.trip_list.proofs.Parsing.{Accepted, line-some, line-within, from-end, from-next, parsed-first, accepted-trips, list-parsed, list-range, list-count}
-use Rattle.trip_list.proofs.Spelling.{spell-shorter}
 use Rattle.trip_list.proofs.Stepping.{line-inside}
 
 pub refused-done : {A : Type 0} (r : Refusal) (n : ℕ) → codedRefusal r ≡ done n → A
@@ -90,57 +87,34 @@ pub record Walked (list : List ℕ) (at least count : ℕ) : Type 0 where
   pub passed : List Trip
   pub so-far : parse list ≡ beforeAll passed (parseFrom least (drop at list))
   pub counted : length passed ≡ count
-  pub shorter : length (spell passed) ≤ at
   pub starts : lineStart count list ≡ at
   pub within : at ≤ length list
   pub few : count ≤ at
 
 pub walked-start : (list : List ℕ) → Walked list 0 0 0
 unfolding parse
-walked-start list = record { passed = []; so-far = refl; counted = refl; shorter = omega arith; starts = refl; within = omega arith; few = omega arith }
-
-pub start-passed : (list : List ℕ) → walked-start list .passed ≡ []
-unfolding walked-start
-start-passed list = refl
+walked-start list = record { passed = []; so-far = refl; counted = refl; starts = refl; within = omega arith; few = omega arith }
 
 module _ (list : List ℕ) (at least count : ℕ) (w : Walked list at least count) where
   module _ (inside : at < length list) (l : line.Line) (a : LineAt list at l) where
     abbrev s : List ℕ
     s = drop at list
 
-    spelled-shorter : length (spelledLine list at) ≤ l .length
-    unfolding spelledLine
-    spelled-shorter = omega (arith, spell-shorter s (a .form), a .read .size)
-
     pub next-after : at < at + l .length
     next-after = omega (arith, line-some s, a .read .size)
 
     pub walked-next : least ≤ l .minute → Walked list (at + l .length) (l .minute + 1) (count + 1)
-    unfolding spelledLine
     walked-next rises =
         let n : lineLength s ≡ l .length = sym (a .read .size) in
         let step = line-before list at least inside l a rises in
-        let more : length (spell (w .passed ++ (firstTrip s ∷ []))) ≡ length (spell (w .passed)) + length (spellTrip (firstTrip s)) =
-        ap length (spell-join (w .passed) (firstTrip s ∷ [])) ∙ length-append (spell (w .passed)) (spell (firstTrip s ∷ [])) ∙ ap (λ (x : List ℕ). length (spell (w .passed)) + length x) (append-nil (spellTrip (firstTrip s))) in
         record {
           passed = w .passed ++ (firstTrip s ∷ []);
           so-far = w .so-far ∙ ap (beforeAll (w .passed)) step ∙ before-join (w .passed) (firstTrip s) _;
           counted = omega (arith, length-append (w .passed) (firstTrip s ∷ []), w .counted);
-          shorter = omega (arith, more, w .shorter, spelled-shorter);
           starts = rw (add-one count) (omega (arith, start-next count list, w .starts, ap (λ (k : ℕ). lineLength (drop k list)) (w .starts), n));
           within = line-inside list at l a;
           few = omega (arith, w .few, next-after);
         }
-
-    -- its trip comes after those passed
-    pub next-passed : (rises : least ≤ l .minute) → walked-next rises .passed ≡ w .passed ++ (firstTrip s ∷ [])
-    unfolding walked-next
-    next-passed rises = refl
-
-    pub walked-on : (rises : least ≤ l .minute) → spell (w .passed) ++ spelledLine list at ≡ spell (walked-next rises .passed)
-    unfolding spelledLine
-    walked-on rises =
-        sym (ap spell (next-passed rises) ∙ spell-join (w .passed) (firstTrip s ∷ []) ∙ ap (λ (x : List ℕ). spell (w .passed) ++ x) (append-nil (spellTrip (firstTrip s))))
 
   -- a line is refused
   pub walked-bad : (a : Coded) → Stopped least (drop at list) a → parse list ≡ refusal a
@@ -152,9 +126,6 @@ module _ (list : List ℕ) (at least count : ℕ) (w : Walked list at least coun
     walked-trips =
         let none : length (drop at list) ≤ 0 = omega (arith, length-drop at list) in
         w .so-far ∙ ap (beforeAll (w .passed)) (from-end least (drop at list) none) ∙ before-none (w .passed)
-
-    pub walked-all : spelling list ≡ spell (w .passed)
-    walked-all = ap (λ (p : Parsed). spell (tripsOf p)) walked-trips
 
     pub walked-answer : answerOf (parse list) ≡ done count
     walked-answer = ap answerOf walked-trips ∙ ap done (w .counted)

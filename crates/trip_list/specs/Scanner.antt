@@ -2,10 +2,10 @@
 use mathlib.Core.Path.{_≡_}
 use mathlib.Core.Bool.{Bool, true, _&&_}
 use mathlib.Core.List.{List}
-use Prim.Native.Nat.{ℕ, _+_, _≤_, _<_}
+use Prim.Native.Nat.{ℕ, _+_, _<_}
 use lib.Dec.{eqb}
 use lib.ListN.{length, getD, drop}
-use Rattle.answer.specs.Coded.{Coded, done, codedRefusal}
+use Rattle.answer.specs.Coded.{Coded, done}
 use Rattle.answer.specs.Admission.{firstRefusal}
 use Rattle.text.specs.Decimal.{isDigit, value}
 use Rattle.text.specs.Marks.{LF, comma}

@@ -1,6 +1,6 @@
 -- What the writer and the join give, by how their loops ended.
 use mathlib.Core.Path.{_≡_, refl, sym, ap, _∙_}
-use mathlib.Core.Bool.{Bool, true, false}
+use mathlib.Core.Bool.{true, false}
 use mathlib.Core.List.{List, []}
 use mathlib.Core.Logic.{_≢_}
 use Prim.Native.Nat.{ℕ, _≤_, _<_, min, max}
@@ -13,7 +13,7 @@ use Rattle.answer.specs.Admission.{ifDone}
 use Rattle.memory.specs.Bytes.{overwrite}
 use Rattle.scan.proofs.Scan.{is-false}
 use Rattle.trip_list.specs.Trip.{spell}
-use Rattle.trip_list.specs.List.{Parsed, trips, parse, parseFrom, tripsOf, greatestList, answerOf, listAnswer, spelling, writeAnswer, written}
+use Rattle.trip_list.specs.List.{Parsed, parse, parseFrom, tripsOf, greatestList, answerOf, listAnswer, spelling, writeAnswer, written}
 use Rattle.trip_list.proofs.Claims.{trips-valid, never-longer}
 use Rattle.trip_list.proofs.Parsing.{accepted-short, accepted, list-parsed}
 use Rattle.trip_list.proofs.Walking.{write-answer}

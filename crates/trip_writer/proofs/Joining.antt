@@ -1,6 +1,6 @@
 -- What the loop over two lists has joined so far.
 use mathlib.Core.Path.{_≡_, refl, sym, ap, _∙_}
-use mathlib.Core.Bool.{Bool, true, false, cond, _&&_, false≢true}
+use mathlib.Core.Bool.{Bool, true, false, cond, _&&_}
 use mathlib.Core.List.{List, [], _∷_, _++_, append-assoc, append-nil}
 use mathlib.Core.Logic.{_≢_}
 use Prim.Native.Nat.{ℕ, _+_, _-_, _*_, _≤_, _<_, min, max}
@@ -21,16 +21,16 @@ use Rattle.trip_list.specs.declared.Line as line
 use Rattle.trip_list.specs.declared.Step.{Step}
 use Rattle.trip_list.specs.declared.Step.the-variants.{At, Refused}
 use Rattle.trip_list.specs.Trip.{Trip, spellTrip, spell}
-use Rattle.trip_list.specs.List.{Parsed, trips, refusal, before, parse, parseFrom, tripsOf, greatestList, listAnswer, validFrom}
+use Rattle.trip_list.specs.List.{Parsed, trips, refusal, before, parse, tripsOf, greatestList, listAnswer, validFrom}
 use Rattle.trip_list.specs.Lines.{firstTrip, driverStart}
 use Rattle.trip_list.specs.Steps.{told, lineGiven}
 use Rattle.trip_list.specs.Scanner.{greatestLine, LineAt, spelledLine}
 use Rattle.trip_list.proofs.Parsing.{line-some, from-end, not-both}
 use Rattle.trip_list.proofs.Claims.{parsed-valid}
-use Rattle.trip_list.proofs.Stepping.{step-line, step-refused, line-inside, minute-fits, length-fits}
+use Rattle.trip_list.proofs.Stepping.{step-line, step-refused, line-inside, minute-fits}
 use Rattle.trip_list.proofs.Walking.{spell-join, line-before, driver-part}
 use Rattle.trip_join.specs.Join.{sameBytes, sameRest, agree, join, joinedTrips, joinedText}
-use Rattle.trip_join.proofs.Laws.{later, raised, join-first, join-second, join-both, agree-first, agree-second, agree-both}
+use Rattle.trip_join.proofs.Laws.{raised, join-first, join-second, join-both, agree-first, agree-second, agree-both}
 use Rattle.trip_writer.specs.declared.Place as place
 use Rattle.trip_writer.specs.declared.Stage as stage
 use Rattle.trip_writer.specs.Joining.{noMinute, Trips, from, Headed, HeadAt, Joined, Joining, asFirst, asSecond, Placed, Spelt}

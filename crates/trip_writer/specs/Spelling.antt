@@ -2,12 +2,10 @@
 use mathlib.Core.Path.{_≡_}
 use mathlib.Core.List.{List}
 use Prim.Native.Nat.{ℕ, _+_}
-use lib.ListN.{length, take, drop}
-use Rattle.answer.specs.Coded.{Coded, done}
-use Rattle.answer.specs.Admission.{ifDone}
+use lib.ListN.{length, drop}
 use Rattle.text.specs.Decimal.{leadingZeros}
 use Rattle.trip_list.specs.Trip.{field}
-use Rattle.trip_list.specs.List.{parse, answerOf, spelling}
+use Rattle.trip_list.specs.List.{spelling}
 use Rattle.trip_list.specs.Lines.{firstLine}
 use Rattle.trip_writer.specs.declared.Kept as kept
 

@@ -273,24 +273,24 @@ fn join_next<'a>(first: &'a [u8], second: &'a [u8], s: Stage, output: &mut [u8])
             agree,
         };
     }
-    let swap = b.minute < a.minute;
-    let mine = Place {
+    let from_second = b.minute < a.minute;
+    let of_first = Place {
         at: i,
         line: a,
         end,
     };
-    let theirs = Place {
+    let of_second = Place {
         at: j,
         line: b,
         end,
     };
-    // One call for both lists.
-    let list = pick_list(swap, second, first);
-    let start = pick_place(swap, theirs, mine);
+    // One call for both lists, which the compiler inlines.
+    let list = pick_list(from_second, second, first);
+    let start = pick_place(from_second, of_second, of_first);
     let limit = number::max(a.minute, b.minute);
     let place = spell_below(list, start, limit, output);
     let line = place.line;
-    if swap {
+    if from_second {
         return Stage {
             i,
             a,
@@ -341,7 +341,7 @@ fn join_lines<'a>(first: &'a [u8], second: &'a [u8], output: &mut [u8]) -> Stage
     s
 }
 
-// ---- the writer
+// ---- the calls
 
 // Writes the one spelling of a list to the front of a buffer of 4,096 bytes, and counts its bytes. It is spelled into an array
 // first: a bad line must leave the buffer as it came. A list joined with no other is its own spelling.

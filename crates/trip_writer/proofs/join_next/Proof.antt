@@ -1,3 +1,4 @@
+-- `trip_writer::join_next` meets its contract: two lines of one minute, or lines of one list.
 use borrow.Author.Needs.{needs}
 use mathlib.Core.Path.{_≡_, ap, _∙_}
 use mathlib.Core.Bool.{Bool, _&&_}
@@ -9,41 +10,26 @@ use Rattle.trip_writer.specs.Joining.{noMinute}
 use Rattle.trip_writer.proofs.Joining.{picked-placed, first-here, second-here, second-on, skip-next, first-spelt, second-spelt}
 use Rattle.trip_writer.proofs.join_next.Statement.{statement}
 use Rattle.trip_writer.proofs.join_next.Tie as tie
-use Rattle.trip_writer.proofs.join_next.Reads as reads
-use Rattle.trip_writer.proofs.join_next.Lts as lts
-use Rattle.number.proofs.max.Reads as max-reads
-use Rattle.trip_writer.proofs.both.Reads as both-reads
-use Rattle.trip_writer.proofs.head.Reads as head-reads
-use Rattle.trip_writer.proofs.pick_list.Reads as pick-list-reads
-use Rattle.trip_writer.proofs.pick_place.Reads as pick-place-reads
-use Rattle.trip_writer.proofs.same_rest.Reads as same-rest-reads
-use Rattle.trip_writer.proofs.spell_below.Reads as spell-below-reads
 
 -- in the first case both lines have one minute
 one-minute : (c : tie.Then1) → let s = c .before .before .before .before .before .before .before .before .args .s in (s .a .minute ≡ s .b .minute) × (s .a .minute < noMinute) × (s .b .minute < noMinute)
 one-minute c = (omega arith, omega arith, omega arith)
 
--- src/lib.rt:264:35
 same-rest-requires : tie.Need-same-rest-requires
 same-rest-requires c κs = let w = c .before .before .before .before .before .before .before .before .pre .0 in (first-here _ _ _ _ w (one-minute c .1), second-here _ _ _ _ w (one-minute c .2))
 
--- src/lib.rt:264:13
 both-requires : tie.Need-both-requires
 both-requires c κs = search needs
 
--- src/lib.rt:265:20
 add-next : tie.Need-add-next
 add-next c = omega (arith, second-on _ _ _ _ (c .before .before .before .before .before .before .before .before .before .before .before .pre .0) (one-minute (c .before .before .before) .2))
 
--- src/lib.rt:266:39
 add-head : tie.Need-add-head
 add-head c = search needs
 
--- src/lib.rt:266:13
 head-requires : tie.Need-head-requires
 head-requires c κs = search needs
 
--- src/lib.rt:267:9
 returns : tie.Need-returns
 returns c =
     let k = c .before .before .before .before .before .before .before .before .before .before .before .before .before in
@@ -53,19 +39,15 @@ returns c =
       omega (arith, second-on _ _ _ _ w (m .2)),
     )
 
--- src/lib.rt:288:9
 pick-list-requires : tie.Need-pick-list-requires
 pick-list-requires c κs = search needs
 
--- src/lib.rt:289:9
 pick-place-requires : tie.Need-pick-place-requires
 pick-place-requires c κs = search needs
 
--- src/lib.rt:290:9
 max-requires : tie.Need-max-requires
 max-requires c κs = search needs
 
--- src/lib.rt:291:9
 spell-below-requires : tie.Need-spell-below-requires
 spell-below-requires c κs =
     let w = c .before .before .before .before .before .before .before .before .before .before .before .before .before .before .pre .0 in (
@@ -73,22 +55,18 @@ spell-below-requires c κs =
       omega (arith, w .first .headed .small, w .second .headed .small, c .before .max .ensures),
     )
 
--- src/lib.rt:294:9
 same-length : tie.Need-same-length
 same-length c = search needs
 
--- src/lib.rt:294:9
 returns-2 : tie.Need-returns-2
 returns-2 c =
     let k = c .before .before .before .before .before .before .before .before .before .before .before .before .before .before .before .before .before .before .before in
     let e = c .before .before .before .before .spell-below .ensures in
     second-spelt _ _ _ _ _ (k .pre .0) _ _ _ _ (e .0) (e .1) (rw (c .if2 .taken) at (c .before .before .before .before .before .before .before .before .pick-list .ensures)) (rw (c .if2 .taken) at (c .before .before .before .before .before .before .before .pick-place .ensures)) (c .before .before .before .before .before .before .max .ensures) (ltb-true _ _ (c .if2 .taken))
 
--- src/lib.rt:254:1
 same-length-2 : tie.Need-same-length-2
 same-length-2 c = search needs
 
--- src/lib.rt:254:1
 -- in the third the first list's is lower
 less : (c : tie.Else2) → c .before .before .before .before .before .before .before .before .before .before .before .before .before .before .before .before .before .before .before .args .s .a .minute < c .before .before .before .before .before .before .before .before .before .before .before .before .before .before .before .before .before .before .before .args .s .b .minute
 less c =

@@ -1,4 +1,4 @@
-use mathlib.Core.Path.{_≡_}
+-- `trip_writer::put_within` meets its contract: a line that ends within the longest list begins there.
 use native.Mathlib.Omega.{arith}
 use borrow.Author.Needs.{needs}
 use Rattle.trip_list.proofs.Stepping.{length-fits}
@@ -7,32 +7,22 @@ use Rattle.trip_writer.proofs.Pieces.{spelled-shorter}
 use Rattle.trip_writer.proofs.Joining.{within-laid}
 use Rattle.trip_writer.proofs.put_within.Statement.{statement}
 use Rattle.trip_writer.proofs.put_within.Tie as tie
-use Rattle.trip_writer.proofs.put_within.Reads as reads
-use Rattle.trip_writer.proofs.put_within.Lts as lts
-use Rattle.number.proofs.min.Reads as min-reads
-use Rattle.trip_writer.proofs.put_line.Reads as put-line-reads
 
--- src/lib.rt:241:9
 min-requires : tie.Need-min-requires
 min-requires c κs = search needs
 
--- src/lib.rt:242:12
 put-line-requires : tie.Need-put-line-requires
 put-line-requires c κs = search needs
 
--- src/lib.rt:242:12
 sub-result : tie.Need-sub-result
 sub-result c = search needs
 
--- src/lib.rt:242:5
 add-result : tie.Need-add-result
 add-result c = let k = c .before .before .before .before .before .before .before in omega (arith, c .before .before .put-line .ensures .0, spelled-shorter _ _ _ (k .pre .0), length-fits _ _ _ (k .pre .0))
 
--- src/lib.rt:236:1
 same-length : tie.Need-same-length
 same-length c = search needs
 
--- src/lib.rt:236:1
 returns : tie.Need-returns
 returns c =
     let k = c .before .before .before .before .before .before .before in

@@ -1,3 +1,4 @@
+-- `trip_writer::same_bytes` meets its contract: the bytes before index `i` are equal.
 use mathlib.Core.Path.{_≡_, refl, sym, _∙_}
 use Prim.Native.Nat.{_-_}
 use native.Mathlib.Omega.{arith}
@@ -7,8 +8,6 @@ use Rattle.trip_join.specs.Join.{sameBytes}
 use Rattle.trip_join.proofs.Laws.{same-next, same-stop, same-end, same-length}
 use Rattle.trip_writer.proofs.same_bytes.Statement.{statement}
 use Rattle.trip_writer.proofs.same_bytes.Tie as tie
-use Rattle.trip_writer.proofs.same_bytes.Reads as reads
-use Rattle.trip_writer.proofs.same_bytes.Lts as lts
 
 abbrev Inv-loop : tie.InvT-loop
 Inv-loop a b i₀ i = (sameBytes a b ≡ sameBytes (drop i a) (drop i b)) × (length a ≡ length b)
@@ -16,45 +15,36 @@ Inv-loop a b i₀ i = (sameBytes a b ≡ sameBytes (drop i a) (drop i b)) × (le
 abbrev μ-loop : tie.MeasureT-loop
 μ-loop a b i₀ i = length a - i
 
--- src/lib.rt:206:9
 returns : tie.Need-returns Inv-loop μ-loop
 returns c = same-length (c .before .args .a .now) (c .before .args .b .now) (c .if1 .taken)
 
--- src/lib.rt:209:5
 loop-holds : tie.Need-loop-holds Inv-loop μ-loop
 loop-holds c = (refl, omega arith)
 
--- src/lib.rt:210:12
 shared-slice-read-if2 : tie.Need-shared-slice-read-if2 Inv-loop μ-loop
 shared-slice-read-if2 c = search needs
 
--- src/lib.rt:210:20
 shared-slice-read-if2-2 : tie.Need-shared-slice-read-if2-2 Inv-loop μ-loop
 shared-slice-read-if2-2 c = omega arith
 
--- src/lib.rt:211:13
 add-i : tie.Need-add-i Inv-loop μ-loop
 add-i c = search needs
 
--- src/lib.rt:209:5
 loop-less : tie.Need-loop-less Inv-loop μ-loop
 loop-less c = search needs
 
--- src/lib.rt:209:5
 loop-again : tie.Need-loop-again Inv-loop μ-loop
 loop-again c =
     let k = c .before .before .before .before in
     let a = k .before .before .args in
     (k .loop .inv .0 ∙ same-next (a .a .now) (a .b .now) (k .loop .i) (omega arith) (omega arith) (c .if2 .taken), omega arith)
 
--- src/lib.rt:213:13
 returns-2 : tie.Need-returns-2 Inv-loop μ-loop
 returns-2 c =
     let k = c .before .before .before .before in
     let a = k .before .before .args in
     sym (k .loop .inv .0 ∙ same-stop (a .a .now) (a .b .now) (k .loop .i) (omega arith) (omega arith) (c .if2 .left))
 
--- src/lib.rt:202:1
 returns-3 : tie.Need-returns-3 Inv-loop μ-loop
 returns-3 c =
     let a = c .before .before .before .args in

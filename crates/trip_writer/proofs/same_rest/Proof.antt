@@ -1,3 +1,4 @@
+-- `trip_writer::same_rest` meets its contract: the metres, then the bytes of the drivers.
 use Prim.Native.Nat.{_+_, _-_, _≤_}
 use native.Mathlib.Omega.{arith}
 use lib.ListN.{length}
@@ -6,63 +7,47 @@ use Rattle.trip_list.proofs.Stepping.{driver-inside}
 use Rattle.trip_writer.proofs.Joining.{metres-differ, metres-same}
 use Rattle.trip_writer.proofs.same_rest.Statement.{statement}
 use Rattle.trip_writer.proofs.same_rest.Tie as tie
-use Rattle.trip_writer.proofs.same_rest.Reads as reads
-use Rattle.trip_writer.proofs.same_rest.Lts as lts
-use Rattle.trip_writer.proofs.same_bytes.Reads as same-bytes-reads
 
 -- the drivers lie within their lists
 inside : (c : tie.Start) → (c .args .i + c .args .a .driver + c .args .a .letters ≤ length (c .args .first .now)) × (c .args .j + c .args .b .driver + c .args .b .letters ≤ length (c .args .second .now))
 inside c = (driver-inside _ _ _ (c .pre .0), driver-inside _ _ _ (c .pre .1))
 
--- src/lib.rt:225:9
 returns : tie.Need-returns
 returns c = let k = c .before .before .before .before .before in metres-differ _ _ _ (k .pre .0) _ _ _ (k .pre .1) (c .if1 .taken)
 
--- src/lib.rt:227:17
 add-start : tie.Need-add-start
 add-start c = omega (arith, inside (c .before .before .before .before .before .before))
 
--- src/lib.rt:228:15
 add-end : tie.Need-add-end
 add-end c = omega (arith, inside (c .before .before .before .before .before .before .before))
 
--- src/lib.rt:229:18
 add-start2 : tie.Need-add-start2
 add-start2 c = omega (arith, inside (c .before .before .before .before .before .before .before .before))
 
--- src/lib.rt:230:16
 add-end2 : tie.Need-add-end2
 add-end2 c = omega (arith, inside (c .before .before .before .before .before .before .before .before .before))
 
--- src/lib.rt:231:16
 sub-same-bytes : tie.Need-sub-same-bytes
 sub-same-bytes c = search needs
 
--- src/lib.rt:231:16
 part-same-bytes-start : tie.Need-part-same-bytes-start
 part-same-bytes-start c = search needs
 
--- src/lib.rt:231:16
 part-same-bytes-end : tie.Need-part-same-bytes-end
 part-same-bytes-end c = omega (arith, inside (c .before .before .before .before .before .before .before .before .before))
 
--- src/lib.rt:231:36
 sub-same-bytes-2 : tie.Need-sub-same-bytes-2
 sub-same-bytes-2 c = search needs
 
--- src/lib.rt:231:36
 part-same-bytes-start-2 : tie.Need-part-same-bytes-start-2
 part-same-bytes-start-2 c = search needs
 
--- src/lib.rt:231:36
 part-same-bytes-end-2 : tie.Need-part-same-bytes-end-2
 part-same-bytes-end-2 c = omega (arith, inside (c .before .before .before .before .before .before .before .before .before .before))
 
--- src/lib.rt:231:5
 same-bytes-requires : tie.Need-same-bytes-requires
 same-bytes-requires c κs = search needs
 
--- src/lib.rt:220:1
 returns-2 : tie.Need-returns-2
 returns-2 c =
     let k = c .before .before .before .before .before .before .before .before .before .before .before .before in

@@ -1,4 +1,4 @@
-use mathlib.Core.Path.{_≡_}
+-- `trip_writer::spell_below` meets its contract: the lines before index `at` are spelled out, up to `end`.
 use Prim.Native.Nat.{_-_, _≤_}
 use native.Mathlib.Omega.{arith}
 use lib.ListN.{length}
@@ -7,10 +7,6 @@ use Rattle.trip_writer.specs.Joining.{noMinute, Placed, Spelt}
 use Rattle.trip_writer.proofs.Joining.{spelt-start, placed-next, spelt-next, place-ready, place-on}
 use Rattle.trip_writer.proofs.spell_below.Statement.{statement}
 use Rattle.trip_writer.proofs.spell_below.Tie as tie
-use Rattle.trip_writer.proofs.spell_below.Reads as reads
-use Rattle.trip_writer.proofs.spell_below.Lts as lts
-use Rattle.trip_writer.proofs.head.Reads as head-reads
-use Rattle.trip_writer.proofs.put_within.Reads as put-within-reads
 
 abbrev Inv-loop : tie.InvT-loop
 Inv-loop list limit output₀ at₀ line₀ end₀ output at line end =
@@ -21,31 +17,24 @@ Inv-loop list limit output₀ at₀ line₀ end₀ output at line end =
 abbrev μ-loop : tie.MeasureT-loop
 μ-loop list limit output₀ at₀ line₀ end₀ output at line end = length list - at
 
--- src/lib.rt:181:5
 loop-holds : tie.Need-loop-holds Inv-loop μ-loop
 loop-holds c = let p = c .before .before .before .pre in (p .0, spelt-start _ _ _ _, p .1)
 
--- src/lib.rt:182:9
 put-within-requires : tie.Need-put-within-requires Inv-loop μ-loop
 put-within-requires c κs = let l = c .before .before .before .loop in place-ready _ _ _ (l .inv .0) (omega (arith, l .inv .2))
 
--- src/lib.rt:183:9
 add-at : tie.Need-add-at Inv-loop μ-loop
 add-at c = let l = c .before .before .before .before .before .before .before .loop in omega (arith, place-on _ _ _ (l .inv .0) (omega (arith, l .inv .2)))
 
--- src/lib.rt:184:31
 add-head : tie.Need-add-head Inv-loop μ-loop
 add-head c = omega (arith, c .before .before .before .before .before .before .before .before .loop .inv .2)
 
--- src/lib.rt:184:9
 head-requires : tie.Need-head-requires Inv-loop μ-loop
 head-requires c κs = search needs
 
--- src/lib.rt:181:5
 loop-less : tie.Need-loop-less Inv-loop μ-loop
 loop-less c = let l = c .before .before .before .before .before .before .before .before .before .loop in omega (arith, place-on _ _ _ (l .inv .0) (omega (arith, l .inv .2)))
 
--- src/lib.rt:181:5
 loop-again : tie.Need-loop-again Inv-loop μ-loop
 loop-again c =
     let l = c .before .before .before .before .before .before .before .before .before .loop in
@@ -55,11 +44,9 @@ loop-again c =
       l .inv .2,
     )
 
--- src/lib.rt:174:1
 same-length : tie.Need-same-length Inv-loop μ-loop
 same-length c = omega (arith, c .before .before .loop .inv .1 .same)
 
--- src/lib.rt:174:1
 returns : tie.Need-returns Inv-loop μ-loop
 returns c = (c .before .before .loop .inv .1, omega arith)
 

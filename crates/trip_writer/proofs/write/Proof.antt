@@ -1,3 +1,4 @@
+-- `trip_writer::write` meets its contract: the list is spelled into an array, and from there copied to the buffer.
 use mathlib.Core.Path.{sym}
 use Prim.Native.Nat.{_≤_}
 use native.Mathlib.Omega.{arith}
@@ -8,37 +9,25 @@ use Rattle.trip_list.proofs.Walking.{write-shape, write-long}
 use Rattle.trip_writer.proofs.Answers.{spelled-fits, write-refused, write-done}
 use Rattle.trip_writer.proofs.write.Statement.{statement}
 use Rattle.trip_writer.proofs.write.Tie as tie
-use Rattle.trip_writer.proofs.write.Reads as reads
-use Rattle.trip_writer.proofs.write.Lts as lts
-use Rattle.memory.proofs.copy.Reads as copy-reads
-use Rattle.trip_list.proofs.check.Reads as check-reads
-use Rattle.trip_writer.proofs.join_lines.Reads as join-lines-reads
 
--- src/lib.rt:353:9
 returns : tie.Need-returns
 returns c = write-shape _ _ (c .if1 .taken)
 
--- src/lib.rt:356:9
 returns-2 : tie.Need-returns-2
 returns-2 c = write-long _ _ (omega arith) (omega arith)
 
--- src/lib.rt:359:30
 slice-aggregate-join-lines : tie.Need-slice-aggregate-join-lines
 slice-aggregate-join-lines c = search needs
 
--- src/lib.rt:359:42
 slice-aggregate-join-lines-2 : tie.Need-slice-aggregate-join-lines-2
 slice-aggregate-join-lines-2 c = search needs
 
--- src/lib.rt:359:9
 join-lines-requires : tie.Need-join-lines-requires
 join-lines-requires c κs = search needs
 
--- src/lib.rt:361:9
 check-requires : tie.Need-check-requires
 check-requires c κs = search needs
 
--- src/lib.rt:361:9
 returns-3 : tie.Need-returns-3
 returns-3 c =
     let e = c .before .before .before .before .join-lines .ensures in
@@ -50,23 +39,18 @@ within c =
     let s = c .before .before .before .before .join-lines in
     omega (arith, spelled-fits _ (omega arith) _ _ (s .ensures .0) (s .ensures .1) (omega arith), s .kept)
 
--- src/lib.rt:364:26
 array-share-prefix-spelled : tie.Need-array-share-prefix-spelled
 array-share-prefix-spelled c = within c
 
--- src/lib.rt:364:26
 slice-aggregate-copy : tie.Need-slice-aggregate-copy
 slice-aggregate-copy c = sym (length-front _ _ (within (c .before)))
 
--- src/lib.rt:364:5
 copy-requires : tie.Need-copy-requires
 copy-requires c κs = search needs
 
--- src/lib.rt:348:1
 same-length : tie.Need-same-length
 same-length c = search needs
 
--- src/lib.rt:348:1
 returns-4 : tie.Need-returns-4
 returns-4 c =
     let e = c .before .before .before .before .before .before .before .before .join-lines .ensures in
