@@ -282,14 +282,15 @@ uint32_t boxstore_next_trip(const uint8_t *list, size_t list_len, size_t at, siz
 /* Write trips: copies the list into the front of the buffer, without the leading zeros of its numbers, and counts the bytes: never
  * more than the list has. All lists of the same trips get this one spelling, and no others do. The rest of the buffer keeps its
  * bytes. SHAPE where the buffer has not 4,096 bytes, else refused as read trip is. The buffer may not be the list itself. Takes
- * about 4 KB of stack, for the spelled list. */
+ * about 5 KB of stack, most of it for the spelled list. */
 uint32_t boxstore_write_trips(const uint8_t *list, size_t list_len, uint8_t *buffer, size_t buffer_len);
 
 /* Join trips: makes one list of two, as of a van whose box was exchanged: all their trips by rising minute, one that both have
  * once, spelled and counted as write trips does. Which list comes first makes no difference to what is written. SHAPE where the
  * buffer has not 4,096 bytes; then the first list is refused as read trip is, then the second; then TRIP CONFLICT where a minute
  * has other metres or another driver in the second list; then TRIPS TOO LONG where the joined list has more than 4,096 bytes. The
- * buffer may overlap neither list; the two may be the same memory. Takes about 4 KB of stack, for the joined list. */
+ * rest of the buffer keeps its bytes. The buffer may overlap neither list; the lists may overlap each other. Takes about 5 KB of
+ * stack, most of it for the joined list. */
 uint32_t boxstore_join_trips(const uint8_t *first, size_t first_len, const uint8_t *second, size_t second_len,
                              uint8_t *buffer, size_t buffer_len);
 

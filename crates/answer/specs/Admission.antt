@@ -17,6 +17,9 @@ abbrev pub firstRefusal : List Test → Coded → Coded
 firstRefusal [] a = a
 firstRefusal (t ∷ ts) a = cond (t .holds) (firstRefusal ts a) (t .refusal)
 
+abbrev pub isDone : Coded → Bool
+isDone a = eqb (a .number) 0
+
 -- x where the answer is done, y where it is a refusal
 abbrev pub ifDone : {A : Type 0} → Coded → A → A → A
-ifDone a x y = cond (eqb (a .number) 0) x y
+ifDone a x y = cond (isDone a) x y

@@ -8,9 +8,10 @@ use native.Mathlib.Omega.{arith}
 use lib.Dec.{leb}
 use lib.ListN.{length, take, length-take, length-append}
 use lib.Seq.{take-nil}
-use borrow.Author.Tests.{eq-eqb, leb-true}
+use borrow.Author.Tests.{leb-true}
 use Rattle.answer.specs.Coded.{Coded, refused, done, NO-ROOM, CUT}
 use Rattle.answer.specs.Admission.{Test, test, firstRefusal}
+use Rattle.scan.proofs.Same.{same-self}
 use Rattle.media.specs.Geometry.{fileBytes}
 use Rattle.media.specs.Write.{Media, MediaWrite}
 use Rattle.memory.proofs.Cases.{split-eq}
@@ -34,19 +35,15 @@ use Rattle.device.proofs.Syncing.{sync-by, sync-frames, synced-fit}
 use Rattle.device.proofs.Mounting.{mount-by}
 use Rattle.model.specs.Run.{Call, IsDone, Reply}
 use Rattle.model.specs.Run.Call.{read, look, write, truncate, sync, mount}
-use Rattle.model.specs.View.{sameBytes, sameMedia, onFile, conditions, plan, mediaAfter, limits}
+use Rattle.model.specs.View.{sameMedia, onFile, conditions, plan, mediaAfter, limits}
 use Rattle.model.specs.Claims.{asItCame, isIdle, Made, Cut, Persists, Demand1}
 use Rattle.model.specs.Store.{keeping, withoutOutput, storeDoes, store}
 use Rattle.model.proofs.Mounts.{done-fit}
 use Rattle.model.proofs.Work.{admitted-fit, works}
 
-same-bytes : (xs : List ℕ) → sameBytes xs xs ≡ true
-same-bytes [] = refl
-same-bytes (x ∷ xs) = rw (eq-eqb x x refl) (same-bytes xs)
-
 pub same-media : (m : Media) → sameMedia m m ≡ true
 unfolding sameMedia
-same-media m = rw (same-bytes (m .bytes), same-bytes (m .sizes))
+same-media m = rw (same-self (m .bytes), same-self (m .sizes))
 
 module _ (P : ℕ) where
   -- ---- the first refusal that applies

@@ -6,6 +6,7 @@ use lib.Dec.{eqb, leb}
 use lib.ListN.{length, take}
 use Rattle.answer.specs.Coded.{Coded, refused, SHAPE, NO-ROOM, CUT}
 use Rattle.answer.specs.Admission.{Test, test}
+use Rattle.scan.specs.Scan.{sameBytes}
 use Rattle.media.specs.Geometry.{fileBytes}
 use Rattle.media.specs.Write.{Media, MediaWrite, applyAll}
 use Rattle.device.specs.Device.{Device}
@@ -22,12 +23,6 @@ DAMAGED = refused 12
 
 abbrev pub EXHAUSTED : Coded
 EXHAUSTED = refused 13
-
-abbrev pub sameBytes : List ℕ → List ℕ → Bool
-sameBytes [] [] = true
-sameBytes [] (y ∷ ys) = false
-sameBytes (x ∷ xs) [] = false
-sameBytes (x ∷ xs) (y ∷ ys) = cond (eqb x y) (sameBytes xs ys) false
 
 unfoldable pub sameMedia : Media → Media → Bool
 sameMedia m o = sameBytes (m .bytes) (o .bytes) && sameBytes (m .sizes) (o .sizes)

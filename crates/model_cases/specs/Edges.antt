@@ -9,13 +9,12 @@ use Rattle.answer.specs.Coded.{Coded, done, RANGE, CUT}
 use Rattle.memory.specs.Bytes.{zeros}
 use Rattle.media.specs.Geometry.{files, pagesPerFile, fileBytes, mediaBytes}
 use Rattle.media.specs.Write.{mediaOf}
-use Rattle.scan.specs.Scan.{every}
+use Rattle.scan.specs.Scan.{every, sameBytes}
 use Rattle.device.specs.Device.{Device, deviceOf, framesBytes, logicalAt, downState, mountedState}
 use Rattle.device.specs.Admission.{give}
 use Rattle.device.specs.Mounting as Mounting
 use Rattle.model.specs.Run.{Call, Reply}
 use Rattle.model.specs.Run.Call.{read, write, truncate, sync, mount}
-use Rattle.model.specs.View.{sameBytes}
 use Rattle.model.specs.Store.{storeDoes, storeMedia}
 
 -- a step of a case

@@ -15,7 +15,7 @@ use Rattle.media.specs.Write.{Media, MediaWrite, mediaOf, sizeAt}
 use Rattle.media.specs.Write.MediaWrite.{page, size, trim}
 use Rattle.device.specs.declared.Slot.{Slot}
 use Rattle.device.specs.Device.{Device, deviceOf, freeSlot, frameStart, isUsed, freeWhere, isCached, logicalAt, floorAt, withSlots, withFloor, downState, mountedState}
-use Rattle.scan.specs.Scan.{every}
+use Rattle.scan.specs.Scan.{every, sameBytes}
 use Rattle.device.specs.Sound.{isDown, isSound}
 use Rattle.device.specs.Current.{currentAt, currentBytes}
 use Rattle.device.specs.Admission.{Result, give, admit, fileTests, mountTests}
@@ -28,7 +28,7 @@ use Rattle.model.specs.Run.{Call, Reply, Interface}
 use Rattle.model.specs.Run.Call.{read, look, write, truncate, sync, mount}
 use Rattle.model.specs.Claims.{asItCame, Demand1, Demand2, Demand3}
 use Rattle.model.specs.Demands.{Demands, PlainDemands}
-use Rattle.model.specs.View.{EXHAUSTED, sameBytes, anew, conditions, plan}
+use Rattle.model.specs.View.{EXHAUSTED, anew, conditions, plan}
 use Rattle.model.specs.Format.{Format}
 use Rattle.model.specs.Store.{Calls, withoutOutput, storeLoses, storeWith, storeCalls, store}
 

@@ -1,3 +1,4 @@
 pub mod Scan
 pub mod Loops
 pub mod Zeros
+pub mod Same

@@ -1,7 +1,8 @@
 -- Tests over a list.
 use Prim.Native.Nat.{ℕ, zero, suc}
-use mathlib.Core.Bool.{Bool, true, cond, _&&_}
+use mathlib.Core.Bool.{Bool, true, false, cond, _&&_}
 use mathlib.Core.List.{List, [], _∷_}
+use lib.Dec.{eqb}
 
 -- every test of the list holds
 abbrev pub allOf : List Bool → Bool
@@ -22,3 +23,10 @@ everyBelow (suc n) t = everyBelow n t && t n
 abbrev pub firstIndex : {A : Type 0} → (A → Bool) → List A → ℕ
 firstIndex t [] = zero
 firstIndex t (x ∷ xs) = cond (t x) zero (suc (firstIndex t xs))
+
+-- two lists are the same
+abbrev pub sameBytes : List ℕ → List ℕ → Bool
+sameBytes [] [] = true
+sameBytes [] (y ∷ ys) = false
+sameBytes (x ∷ xs) [] = false
+sameBytes (x ∷ xs) (y ∷ ys) = eqb x y && sameBytes xs ys

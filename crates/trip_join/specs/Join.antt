@@ -1,29 +1,23 @@
 -- Two trip lists joined into one: document 02, §12.
-use mathlib.Core.Bool.{Bool, true, false, cond, _&&_}
+use mathlib.Core.Bool.{Bool, true, cond, _&&_}
 use mathlib.Core.List.{List, [], _∷_}
 use Prim.Native.Nat.{ℕ}
 use lib.Dec.{eqb, ltb, leb}
 use lib.ListN.{length}
 use Rattle.answer.specs.Coded.{Coded, done, SHAPE, TRIP-CONFLICT, TRIPS-TOO-LONG}
-use Rattle.answer.specs.Admission.{firstRefusal, ifDone, test}
+use Rattle.answer.specs.Admission.{firstRefusal, isDone, ifDone, test}
 use Rattle.memory.specs.Bytes.{overwrite}
-use Rattle.scan.specs.Scan.{every}
+use Rattle.scan.specs.Scan.{every, sameBytes}
 use Rattle.trip_list.specs.Trip.{Trip, spell}
-use Rattle.trip_list.specs.List.{parse, tripsOf, greatestList, listAnswer}
+use Rattle.trip_list.specs.List.{tripsIn, greatestList, listAnswer}
 
 -- ---- trips of one minute
-
-abbrev pub sameBytes : List ℕ → List ℕ → Bool
-sameBytes [] [] = true
-sameBytes [] (y ∷ ys) = false
-sameBytes (x ∷ xs) [] = false
-sameBytes (x ∷ xs) (y ∷ ys) = eqb x y && sameBytes xs ys
 
 -- the same metres and driver
 unfoldable pub sameRest : Trip → Trip → Bool
 sameRest t u = eqb (t .metres) (u .metres) && sameBytes (t .driver) (u .driver)
 
--- not of one minute, or the same
+-- of different minutes, or with the same metres and driver
 unfoldable pub agreeing : Trip → Trip → Bool
 agreeing t u = cond (eqb (t .minute) (u .minute)) (sameRest t u) true
 
@@ -33,7 +27,7 @@ agree ts us = every (λ t. every (agreeing t) us) ts
 
 -- ---- the join
 
--- a trip at its place in minute order; it takes the place of one of its minute
+-- a trip put in minute order; it replaces one of the same minute
 abbrev pub insert : Trip → List Trip → List Trip
 insert t [] = t ∷ []
 insert t (u ∷ us) = cond (ltb (t .minute) (u .minute)) (t ∷ u ∷ us) (cond (ltb (u .minute) (t .minute)) (u ∷ insert t us) (t ∷ us))
@@ -46,15 +40,12 @@ join (t ∷ ts) us = insert t (join ts us)
 -- ---- of two lists: the trips, and their one spelling
 
 abbrev pub joinedTrips : List ℕ → List ℕ → List Trip
-joinedTrips first second = join (tripsOf (parse first)) (tripsOf (parse second))
+joinedTrips first second = join (tripsIn first) (tripsIn second)
 
 abbrev pub joinedText : List ℕ → List ℕ → List ℕ
 joinedText first second = spell (joinedTrips first second)
 
 -- ---- the call
-
-abbrev pub isDone : Coded → Bool
-isDone a = eqb (a .number) 0
 
 unfoldable pub joinAnswer : List ℕ → List ℕ → List ℕ → Coded
 joinAnswer first second buffer =
@@ -62,7 +53,7 @@ joinAnswer first second buffer =
     (test (eqb (length buffer) greatestList) SHAPE
     ∷ test (isDone (listAnswer first)) (listAnswer first)
     ∷ test (isDone (listAnswer second)) (listAnswer second)
-    ∷ test (agree (tripsOf (parse first)) (tripsOf (parse second))) TRIP-CONFLICT
+    ∷ test (agree (tripsIn first) (tripsIn second)) TRIP-CONFLICT
     ∷ test (leb (length (joinedText first second)) greatestList) TRIPS-TOO-LONG
     ∷ [])
     (done (length (joinedText first second)))

@@ -39,6 +39,10 @@ abbrev pub tripsOf : Parsed → List Trip
 tripsOf (trips ts) = ts
 tripsOf (refusal a) = []
 
+-- the trips of a list, none where it is refused
+abbrev pub tripsIn : List ℕ → List Trip
+tripsIn list = tripsOf (parse list)
+
 -- ---- the answer for a list: RANGE, 10, 11, or the number of its trips
 
 abbrev pub greatestList : ℕ
@@ -57,7 +61,7 @@ listAnswer list = firstRefusal (lengthTest list ∷ []) (answerOf (parse list))
 -- ---- the writer: the one spelling at the front of a buffer
 
 abbrev pub spelling : List ℕ → List ℕ
-spelling list = spell (tripsOf (parse list))
+spelling list = spell (tripsIn list)
 
 unfoldable pub writeAnswer : List ℕ → List ℕ → Coded
 writeAnswer list buffer =

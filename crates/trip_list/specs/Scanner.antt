@@ -12,7 +12,7 @@ use Rattle.text.specs.Marks.{LF, comma}
 use Rattle.text.specs.Runs.{run, front}
 use Rattle.trip_list.specs.declared.Trip as code
 use Rattle.trip_list.specs.declared.Line as line
-use Rattle.trip_list.specs.Trip.{isDriverByte, isNumber, isDriver, field, spellTrip}
+use Rattle.trip_list.specs.Trip.{isDriverByte, isNumber, isDriver, field}
 use Rattle.trip_list.specs.List.{refusal, parseFrom, listAnswer}
 use Rattle.trip_list.specs.Lines.{firstLine, hasLine, firstTrip, lineLength, driverStart, lineStart}
 use Rattle.trip_list.specs.Lookup.{lineTests}
@@ -73,9 +73,6 @@ tripAt list at = record {
   driver = at + driverStart (drop at list);
   letters = length (firstTrip (drop at list) .driver);
 }
-
-unfoldable pub spelledLine : List ℕ → ℕ → List ℕ
-spelledLine list at = spellTrip (firstTrip (drop at list))
 
 -- one pass over a list: its answer; where that is done, the trip at the place
 pub record Surveyed (list : List ℕ) (place : ℕ) (answer : Coded) (t : code.Trip) : Type 0 where

@@ -1,4 +1,4 @@
--- What the line at an index is, for callers that copy it.
+-- The line at an index of a list, as `line_at` gives it.
 use mathlib.Core.Bool.{true}
 use mathlib.Core.List.{List, [], _∷_}
 use Prim.Native.Nat.{ℕ, _+_}

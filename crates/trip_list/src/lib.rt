@@ -131,6 +131,7 @@ pub struct Line {
     pub metres: usize,
     // The length of the driver.
     pub letters: usize,
+    // The fields that a loop needs which copies lines stand together.
     pub minute: usize,
     // Where in the line the metres and the driver begin.
     pub second: usize,

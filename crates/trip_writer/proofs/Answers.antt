@@ -9,7 +9,7 @@ use lib.ListN.{length, take}
 use borrow.Author.Tests.{eq-eqb, ne-eqb, eqb-true, le-leb, lt-leb}
 use borrow.Table.Steps.{cases}
 use Rattle.answer.specs.Coded.{Coded, done, SHAPE, TRIP-CONFLICT, TRIPS-TOO-LONG}
-use Rattle.answer.specs.Admission.{ifDone}
+use Rattle.answer.specs.Admission.{isDone, ifDone}
 use Rattle.memory.specs.Bytes.{overwrite}
 use Rattle.scan.proofs.Scan.{is-false}
 use Rattle.trip_list.specs.Trip.{spell}
@@ -17,7 +17,7 @@ use Rattle.trip_list.specs.List.{Parsed, parse, parseFrom, tripsOf, greatestLis
 use Rattle.trip_list.proofs.Claims.{trips-valid, never-longer}
 use Rattle.trip_list.proofs.Parsing.{accepted-short, accepted, list-parsed}
 use Rattle.trip_list.proofs.Walking.{write-answer}
-use Rattle.trip_join.specs.Join.{isDone, joinedText, joinAnswer, joined}
+use Rattle.trip_join.specs.Join.{joinedText, joinAnswer, joined}
 use Rattle.trip_join.proofs.Claims.{join-none}
 use Rattle.trip_writer.specs.declared.Stage as stage
 use Rattle.trip_writer.specs.Joining.{noMinute, Trips, Joining}
@@ -62,11 +62,11 @@ module _ (x y buffer : List ℕ) (h : length buffer ≡ greatestList) where
     pub join-long : greatestList < max (length x) (length y) → (a ≡ joinAnswer x y buffer) × (buffer ≡ joined x y buffer)
     join-long l = join-refused (λ d f. absurd (omega (arith, short-done x d, short-done y f))) a e
 
-    pub join-first : (Trips (parse x) → ⊥) → (a ≡ joinAnswer x y buffer) × (buffer ≡ joined x y buffer)
-    join-first n = join-refused (λ d f. n (trips-done x d)) a e
+    pub first-bad : (Trips (parse x) → ⊥) → (a ≡ joinAnswer x y buffer) × (buffer ≡ joined x y buffer)
+    first-bad n = join-refused (λ d f. n (trips-done x d)) a e
 
-    pub join-second : (Trips (parse y) → ⊥) → (a ≡ joinAnswer x y buffer) × (buffer ≡ joined x y buffer)
-    join-second n = join-refused (λ d f. n (trips-done y f)) a e
+    pub second-bad : (Trips (parse y) → ⊥) → (a ≡ joinAnswer x y buffer) × (buffer ≡ joined x y buffer)
+    second-bad n = join-refused (λ d f. n (trips-done y f)) a e
 
   -- both are
   module _ (hx : length x ≤ greatestList) (hy : length y ≤ greatestList) (xs : List ℕ) (s : stage.Stage) (w : Ended x y xs s) where
@@ -85,9 +85,9 @@ module _ (x y buffer : List ℕ) (h : length buffer ≡ greatestList) where
       unfolding joinAnswer joined
       join-too-long l = rw (eq-eqb _ _ h, first-done, second-done, w .agrees, agrees, ← (w .ends), lt-leb _ _ l) (refl, refl)
 
-      pub join-done : s .end ≤ greatestList → (ys : List ℕ) → ys ≡ overwrite buffer 0 (take (s .end) xs) → (done (s .end) ≡ joinAnswer x y buffer) × (ys ≡ joined x y buffer)
+      pub join-fits : s .end ≤ greatestList → (ys : List ℕ) → ys ≡ overwrite buffer 0 (take (s .end) xs) → (done (s .end) ≡ joinAnswer x y buffer) × (ys ≡ joined x y buffer)
       unfolding joinAnswer joined
-      join-done l ys e = rw (eq-eqb _ _ h, first-done, second-done, w .agrees, agrees, ← (w .ends), le-leb _ _ l) (refl, e ∙ ap (overwrite buffer 0) (w .laid l))
+      join-fits l ys e = rw (eq-eqb _ _ h, first-done, second-done, w .agrees, agrees, ← (w .ends), le-leb _ _ l) (refl, e ∙ ap (overwrite buffer 0) (w .laid l))
 
 -- ---- the writer: a list joined with no other
 

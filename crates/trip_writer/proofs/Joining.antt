@@ -16,6 +16,7 @@ use Rattle.answer.specs.Admission.{ifDone}
 use Rattle.answer.proofs.Coded.{refusal-number}
 use Rattle.memory.specs.Bytes.{part}
 use Rattle.memory.proofs.Cases.{split-lt}
+use Rattle.scan.specs.Scan.{sameBytes}
 use Rattle.scan.proofs.Scan.{and-assoc}
 use Rattle.trip_list.specs.declared.Line as line
 use Rattle.trip_list.specs.declared.Step.{Step}
@@ -24,16 +25,17 @@ use Rattle.trip_list.specs.Trip.{Trip, spellTrip, spell}
 use Rattle.trip_list.specs.List.{Parsed, trips, refusal, before, parse, tripsOf, greatestList, listAnswer, validFrom}
 use Rattle.trip_list.specs.Lines.{firstTrip, driverStart}
 use Rattle.trip_list.specs.Steps.{told, lineGiven}
-use Rattle.trip_list.specs.Scanner.{greatestLine, LineAt, spelledLine}
+use Rattle.trip_list.specs.Scanner.{greatestLine, LineAt}
 use Rattle.trip_list.proofs.Parsing.{line-some, from-end, not-both}
 use Rattle.trip_list.proofs.Claims.{parsed-valid}
 use Rattle.trip_list.proofs.Stepping.{step-line, step-refused, line-inside, minute-fits}
 use Rattle.trip_list.proofs.Walking.{spell-join, line-before, driver-part}
-use Rattle.trip_join.specs.Join.{sameBytes, sameRest, agree, join, joinedTrips, joinedText}
+use Rattle.trip_join.specs.Join.{sameRest, agree, join, joinedTrips, joinedText}
 use Rattle.trip_join.proofs.Laws.{raised, join-first, join-second, join-both, agree-first, agree-second, agree-both}
 use Rattle.trip_writer.specs.declared.Place as place
 use Rattle.trip_writer.specs.declared.Stage as stage
-use Rattle.trip_writer.specs.Joining.{noMinute, Trips, from, Headed, HeadAt, Joined, Joining, asFirst, asSecond, Placed, Spelt}
+use Rattle.trip_writer.specs.Spelling.{spelledLine}
+use Rattle.trip_writer.specs.Joining.{noMinute, Trips, from, Headed, HeadAt, Joined, Joining, asFirst, asSecond, Placed, Advanced}
 use Rattle.trip_writer.proofs.Pieces.{spelled-shorter}
 
 -- ---- the next line
@@ -194,7 +196,7 @@ joining-start x y xs a b da db hx hy hs = record {
   first = head-start x a da;
   second = head-start y b db;
   shorter = omega arith;
-  small = (hx, hy, hs);
+  lengths = (hx, hy, hs);
   joined = λ tx ty. record { passed = []; joins = refl; agrees = refl; ends = refl; laid = λ _. refl };
 }
 
@@ -217,7 +219,7 @@ module _ (x y xs : List ℕ) (s : stage.Stage) (w : Joining x y xs s) (ys : List
         first = head-next x (s .i) (s .a) (w .first) some n d;
         second = w .second;
         shorter = omega (arith, spelled-shorter x (s .i) (s .a) l, w .shorter);
-        small = (w .small .0, w .small .1, omega (arith, w .small .2));
+        lengths = (w .lengths .0, w .lengths .1, omega (arith, w .lengths .2));
         joined = λ tx ty.
             let vs = tripsOf (from x (s .i + s .a .length) (s .a .minute + 1)) in
             let us = tripsOf (from y (s .j) (w .second .least)) in
@@ -239,7 +241,7 @@ module _ (x y xs : List ℕ) (s : stage.Stage) (w : Joining x y xs s) (ys : List
         first = w .first;
         second = head-next y (s .j) (s .b) (w .second) some n d;
         shorter = omega (arith, spelled-shorter y (s .j) (s .b) l, w .shorter);
-        small = (w .small .0, w .small .1, omega (arith, w .small .2));
+        lengths = (w .lengths .0, w .lengths .1, omega (arith, w .lengths .2));
         joined = λ tx ty.
             let ts = tripsOf (from x (s .i) (w .first .least)) in
             let ws = tripsOf (from y (s .j + s .b .length) (s .b .minute + 1)) in
@@ -263,7 +265,7 @@ skip-next x y xs s w eq some n d g eg =
       first = w .first;
       second = head-next y (s .j) (s .b) (w .second) also n d;
       shorter = omega (arith, w .shorter);
-      small = w .small;
+      lengths = w .lengths;
       joined = λ tx ty.
           let vs = tripsOf (from x (s .i + s .a .length) (s .a .minute + 1)) in
           let ws = tripsOf (from y (s .j + s .b .length) (s .b .minute + 1)) in
@@ -284,11 +286,11 @@ skip-next x y xs s w eq some n d g eg =
 
 -- ---- lines of one list
 
-pub spelt-start : (list : List ℕ) (limit : ℕ) (xs : List ℕ) (p : place.Place) → Spelt list limit xs p xs p
-spelt-start list limit xs p =
-    record { first = λ y j b g h w. w; second = λ x i a g h w. w; from = omega arith; on = λ l h. absurd (omega arith); same = refl }
+pub advanced-start : (list : List ℕ) (limit : ℕ) (xs : List ℕ) (p : place.Place) → Advanced list limit xs p xs p
+advanced-start list limit xs p =
+    record { first = λ y j b g h w. w; second = λ x i a g h w. w; forward = omega arith; on = λ l h. absurd (omega arith); same = refl }
 
-module _ (list : List ℕ) (limit : ℕ) (most : limit ≤ noMinute) (xs ys zs : List ℕ) (p q : place.Place) (w : Placed list ys q) (s : Spelt list limit xs p ys q) (less : q .line .minute < limit)
+module _ (list : List ℕ) (limit : ℕ) (most : limit ≤ noMinute) (xs ys zs : List ℕ) (p q : place.Place) (w : Placed list ys q) (s : Advanced list limit xs p ys q) (less : q .line .minute < limit)
     (same : length zs ≡ length ys) (end : ℕ) (en : end ≡ q .end + length (spelledLine list (q .at)))
     (el : end ≤ greatestList → take end zs ≡ take (q .end) ys ++ spelledLine list (q .at)) (n : line.Line) (d : Headed list (q .at + q .line .length) (q .line .minute + 1) n) where
   abbrev next : place.Place
@@ -301,25 +303,25 @@ module _ (list : List ℕ) (limit : ℕ) (most : limit ≤ noMinute) (xs ys zs :
   placed-next = record {
     head = head-next list (q .at) (q .line) (w .head) some n d;
     short = w .short;
-    small = omega (arith, w .small, spelled-shorter list (q .at) (q .line) (line-here list (q .at) (q .line) (w .head) some));
+    fits = omega (arith, w .fits, spelled-shorter list (q .at) (q .line) (line-here list (q .at) (q .line) (w .head) some));
     room = omega (arith, w .room);
   }
 
-  pub spelt-next : Spelt list limit xs p zs next
-  spelt-next =
+  pub advanced-next : Advanced list limit xs p zs next
+  advanced-next =
       let on = next-on list (q .at) (q .line) (w .head) some in
       record {
         first = λ y j b g h v. first-next list y ys (asFirst q j b g) (s .first y j b g h v) zs same end (omega arith) en el n d;
         second = λ x i a g h v. second-next x list ys (asSecond q i a g) (s .second x i a g h v) zs same end (omega arith) en el n d;
-        from = omega (arith, s .from, on);
-        on = λ l h. omega (arith, s .from, on);
+        forward = omega (arith, s .forward, on);
+        on = λ l h. omega (arith, s .forward, on);
         same = same ∙ s .same;
       }
 
 -- what the code asks for at a place
 module _ (list xs : List ℕ) (q : place.Place) (w : Placed list xs q) (some : q .line .minute < noMinute) where
   pub place-ready : LineAt list (q .at) (q .line) × (greatestList + 2 * greatestLine ≤ length xs) × (q .end ≤ 2 * greatestList)
-  place-ready = (line-here list (q .at) (q .line) (w .head) some, w .room, omega (arith, w .small, w .head .within))
+  place-ready = (line-here list (q .at) (q .line) (w .head) some, w .room, omega (arith, w .fits, w .head .within))
 
   pub place-on : (q .at < q .at + q .line .length) × (q .at + q .line .length ≤ length list) × (length list ≤ greatestList)
   place-on = (next-on list (q .at) (q .line) (w .head) some, next-within list (q .at) (q .line) (w .head) some, w .short)
@@ -328,10 +330,10 @@ module _ (list xs : List ℕ) (q : place.Place) (w : Placed list xs q) (some : q
 
 module _ (x y xs : List ℕ) (s : stage.Stage) (w : Joining x y xs s) where
   pub first-placed : Placed x xs (record { at = s .i; line = s .a; end = s .end })
-  first-placed = record { head = w .first; short = w .small .0; small = omega (arith, w .shorter, w .second .within, w .small); room = w .small .2 }
+  first-placed = record { head = w .first; short = w .lengths .0; fits = omega (arith, w .shorter, w .second .within, w .lengths); room = w .lengths .2 }
 
   pub second-placed : Placed y xs (record { at = s .j; line = s .b; end = s .end })
-  second-placed = record { head = w .second; short = w .small .1; small = omega (arith, w .shorter, w .first .within, w .small); room = w .small .2 }
+  second-placed = record { head = w .second; short = w .lengths .1; fits = omega (arith, w .shorter, w .first .within, w .lengths); room = w .lengths .2 }
 
   -- one of both
   pub picked-placed : (g : Bool) (list : List ℕ) (q : place.Place) → list ≡ cond g y x → q ≡ cond g (record { at = s .j; line = s .b; end = s .end }) (record { at = s .i; line = s .a; end = s .end })
@@ -347,20 +349,20 @@ module _ (x y xs : List ℕ) (s : stage.Stage) (w : Joining x y xs s) where
 
   -- the next index is within the list
   pub second-on : s .b .minute < noMinute → (s .j < s .j + s .b .length) × (s .j + s .b .length ≤ greatestList)
-  second-on some = (next-on y (s .j) (s .b) (w .second) some, omega (arith, next-within y (s .j) (s .b) (w .second) some, w .small .1))
+  second-on some = (next-on y (s .j) (s .b) (w .second) some, omega (arith, next-within y (s .j) (s .b) (w .second) some, w .lengths .1))
 
 -- lines of one of both lists were spelled
-module _ (x y xs ys : List ℕ) (s : stage.Stage) (w : Joining x y xs s) (list : List ℕ) (limit : ℕ) (p q : place.Place) (e : Spelt list limit xs p ys q) (stops : limit ≤ q .line .minute) where
-  pub second-spelt : list ≡ y → p ≡ record { at = s .j; line = s .b; end = s .end } → limit ≡ max (s .a .minute) (s .b .minute) → s .b .minute < s .a .minute
+module _ (x y xs ys : List ℕ) (s : stage.Stage) (w : Joining x y xs s) (list : List ℕ) (limit : ℕ) (p q : place.Place) (e : Advanced list limit xs p ys q) (stops : limit ≤ q .line .minute) where
+  pub second-advanced : list ≡ y → p ≡ record { at = s .j; line = s .b; end = s .end } → limit ≡ max (s .a .minute) (s .b .minute) → s .b .minute < s .a .minute
       → Joining x y ys (asSecond q (s .i) (s .a) (s .agree)) × (s .i + s .j < s .i + q .at)
-  second-spelt el ep em less =
-      let t : Spelt y limit xs (record { at = s .j; line = s .b; end = s .end }) ys q = rw (← el, ← ep) e in
+  second-advanced el ep em less =
+      let t : Advanced y limit xs (record { at = s .j; line = s .b; end = s .end }) ys q = rw (← el, ← ep) e in
       (t .second x (s .i) (s .a) (s .agree) (omega arith) w, omega (arith, t .on (omega arith) stops))
 
-  pub first-spelt : list ≡ x → p ≡ record { at = s .i; line = s .a; end = s .end } → limit ≡ max (s .a .minute) (s .b .minute) → s .a .minute < s .b .minute
+  pub first-advanced : list ≡ x → p ≡ record { at = s .i; line = s .a; end = s .end } → limit ≡ max (s .a .minute) (s .b .minute) → s .a .minute < s .b .minute
       → Joining x y ys (asFirst q (s .j) (s .b) (s .agree)) × (s .i + s .j < q .at + s .j)
-  first-spelt el ep em less =
-      let t : Spelt x limit xs (record { at = s .i; line = s .a; end = s .end }) ys q = rw (← el, ← ep) e in
+  first-advanced el ep em less =
+      let t : Advanced x limit xs (record { at = s .i; line = s .a; end = s .end }) ys q = rw (← el, ← ep) e in
       (t .first y (s .j) (s .b) (s .agree) (omega arith) w, omega (arith, t .on (omega arith) stops))
 
 -- ---- both lists are at their ends
@@ -372,7 +374,7 @@ walk-refused list at h w none inside t = w .headed .none none inside (w .rest t)
 walk-whole : (list : List ℕ) (at : ℕ) (h : line.Line) → HeadAt list at h → length list ≤ at → Trips (parse list)
 walk-whole list at h w over = w .whole (rw (from-end (w .least) (drop at list) (omega (arith, length-drop at list))))
 
--- both lists are accepted; the join is spelled, as far as it fits
+-- both lists are accepted; the join is spelled, where it fits
 pub record Ended (x y xs : List ℕ) (s : stage.Stage) : Type 0 where
   pub first : Trips (parse x)
   pub second : Trips (parse y)

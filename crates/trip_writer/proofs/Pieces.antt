@@ -11,12 +11,12 @@ use Rattle.text.specs.Decimal.{leadingZeros}
 use Rattle.text.specs.Marks.{comma}
 use Rattle.trip_list.specs.declared.Line as line
 use Rattle.trip_list.specs.Lines.{lineLength}
-use Rattle.trip_list.specs.Scanner.{greatestLine, LineAt, spelledLine}
+use Rattle.trip_list.specs.Scanner.{greatestLine, LineAt}
 use Rattle.trip_list.proofs.Lines.{after-mark, minuteOf, metresOf, texts}
 use Rattle.trip_list.proofs.Spelling.{minute-zeros, metres-zeros, minuteZeros, metresZeros, parts-length, spell-shorter, kept-parts}
 use Rattle.trip_list.proofs.Stepping.{driver-start}
 use Rattle.trip_writer.specs.declared.Kept as kept
-use Rattle.trip_writer.specs.Spelling.{KeptAt}
+use Rattle.trip_writer.specs.Spelling.{spelledLine, KeptAt}
 
 -- m elements of a list were laid over xs from `end` on: so the first n of them stand there
 put-more : (list xs : List ℕ) (first end n m : ℕ) → n ≤ m → first + m ≤ length list → end + m ≤ length xs
@@ -69,54 +69,54 @@ module _ (list : List ℕ) (at : ℕ) (l : line.Line) (a : LineAt list at l) whe
       pub metres-counts : l .second + y < l .driver
       metres-counts = omega (arith, metres-counted, metres-zeros s (a .form), a .read .second, a .read .driver, driver-start s (a .form))
 
-      pub kept-found : KeptAt list at (record { first = at + x; third = at + l .second + y })
-      kept-found = record { first = ap (λ (i : ℕ). at + i) minute-counted; third = omega (arith, metres-counted, a .read .second) }
+      pub kept-found : KeptAt list at (record { minute = at + x; metres = at + l .second + y })
+      kept-found = record { minute = ap (λ (i : ℕ). at + i) minute-counted; metres = omega (arith, metres-counted, a .read .second) }
 
   piece : (x y n k : ℕ) → x ≡ at + y → n ≡ k → part list x n ≡ part s y k
   piece x y n k e q = ap (λ (i : ℕ). part list i n) e ∙ ap (λ (i : ℕ). part list (at + y) i) q ∙ ap (take k) (sym (drop-drop y at list))
 
   module _ (k : kept.Kept) (z : KeptAt list at k) where
     -- the kept digits of the minute, the metres, their kept digits, the end
-    pub first-second : k .first ≤ at + l .second
-    first-second = omega (arith, z .first, a .read .second, minute-zeros s (a .form))
+    pub first-second : k .minute ≤ at + l .second
+    first-second = omega (arith, z .minute, a .read .second, minute-zeros s (a .form))
 
-    pub second-third : at + l .second ≤ k .third
-    second-third = omega (arith, z .third, a .read .second)
+    pub second-third : at + l .second ≤ k .metres
+    second-third = omega (arith, z .metres, a .read .second)
 
-    pub third-end : k .third ≤ at + l .length
-    third-end = omega (arith, z .third, a .read .size, metres-zeros s (a .form), parts-length s (a .form))
+    pub third-end : k .metres ≤ at + l .length
+    third-end = omega (arith, z .metres, a .read .size, metres-zeros s (a .form), parts-length s (a .form))
 
-    pub spelled-length : at + l .second - k .first + (at + l .length - k .third) ≡ length (spelledLine list at)
+    pub spelled-length : at + l .second - k .minute + (at + l .length - k .metres) ≡ length (spelledLine list at)
     unfolding spelledLine
     spelled-length =
-        omega (arith, spell-shorter s (a .form), z .first, z .third, a .read .second, a .read .size, minute-zeros s (a .form), third-end)
+        omega (arith, spell-shorter s (a .form), z .minute, z .metres, a .read .second, a .read .size, minute-zeros s (a .form), third-end)
 
-    kept-at : part list (k .first) (at + l .second - k .first) ++ part list (k .third) (at + l .length - k .third) ≡ spelledLine list at
+    kept-at : part list (k .minute) (at + l .second - k .minute) ++ part list (k .metres) (at + l .length - k .metres) ≡ spelledLine list at
     unfolding spelledLine
     kept-at =
         let m = length (minuteOf s) + 1 in
         let f = minuteZeros s (a .form) in
         let g = m + metresZeros s (a .form) in
-        let n : at + l .second - k .first ≡ m - f = omega (arith, z .first, a .read .second) in
-        let o : at + l .length - k .third ≡ lineLength s - g = omega (arith, z .third, a .read .size) in
-        ap (λ (x : List ℕ). x ++ part list (k .third) (at + l .length - k .third)) (piece (k .first) f _ (m - f) (z .first) n)
-        ∙ ap (λ (x : List ℕ). part s f (m - f) ++ x) (piece (k .third) g _ (lineLength s - g) (omega (arith, z .third)) o)
+        let n : at + l .second - k .minute ≡ m - f = omega (arith, z .minute, a .read .second) in
+        let o : at + l .length - k .metres ≡ lineLength s - g = omega (arith, z .metres, a .read .size) in
+        ap (λ (x : List ℕ). x ++ part list (k .metres) (at + l .length - k .metres)) (piece (k .minute) f _ (m - f) (z .minute) n)
+        ∙ ap (λ (x : List ℕ). part s f (m - f) ++ x) (piece (k .metres) g _ (lineLength s - g) (omega (arith, z .metres)) o)
         ∙ kept-parts s (a .form)
 
     -- as the code lays them: each piece, perhaps with bytes after it
     pub put-pieces : (xs : List ℕ) (end : ℕ) → end + 2 * greatestLine ≤ length xs → l .length ≤ greatestLine → (ys zs : List ℕ) (n m : ℕ)
-        → at + l .second ≤ k .first + n → k .first + n ≤ length list → n ≤ greatestLine → at + l .length ≤ k .third + m → k .third + m ≤ length list → m ≤ greatestLine
-        → ys ≡ overwrite xs end (part list (k .first) n)
-        → zs ≡ overwrite ys (end + (at + l .second - k .first)) (part list (k .third) m)
-        → take (end + (at + l .second - k .first) + (at + l .length - k .third)) zs ≡ take end xs ++ spelledLine list at
+        → at + l .second ≤ k .minute + n → k .minute + n ≤ length list → n ≤ greatestLine → at + l .length ≤ k .metres + m → k .metres + m ≤ length list → m ≤ greatestLine
+        → ys ≡ overwrite xs end (part list (k .minute) n)
+        → zs ≡ overwrite ys (end + (at + l .second - k .minute)) (part list (k .metres) m)
+        → take (end + (at + l .second - k .minute) + (at + l .length - k .metres)) zs ≡ take end xs ++ spelledLine list at
     put-pieces xs end room short ys zs n m f1 f2 f3 t1 t2 t3 ey ez =
-        let i = at + l .second - k .first in
-        let j = at + l .length - k .third in
-        let q = part list (k .third) j in
+        let i = at + l .second - k .minute in
+        let j = at + l .length - k .metres in
+        let q = part list (k .metres) j in
         let w : length ys ≡ length xs = ap length ey ∙ length-overwrite xs end _ in
         ap (take (end + i + j)) ez
-        ∙ put-more list ys (k .third) (end + i) j m (omega arith) t2 (omega (arith, first-second, second-third))
+        ∙ put-more list ys (k .metres) (end + i) j m (omega arith) t2 (omega (arith, first-second, second-third))
         ∙ ap (λ (o : List ℕ). take (end + i) o ++ q) ey
-        ∙ ap (λ (o : List ℕ). o ++ q) (put-more list xs (k .first) end i n (omega arith) f2 (omega (arith, z .first)))
-        ∙ append-assoc (take end xs) (part list (k .first) i) q
+        ∙ ap (λ (o : List ℕ). o ++ q) (put-more list xs (k .minute) end i n (omega arith) f2 (omega (arith, z .minute)))
+        ∙ append-assoc (take end xs) (part list (k .minute) i) q
         ∙ ap (λ (o : List ℕ). take end xs ++ o) kept-at

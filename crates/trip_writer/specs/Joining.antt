@@ -40,7 +40,7 @@ pub record HeadAt (list : List ℕ) (at : ℕ) (h : line.Line) : Type 0 where
   pub rest : Trips (parse list) → Trips (from list at least)
   pub whole : Trips (from list at least) → Trips (parse list)
 
--- the trips of the join up to some are spelled at the front of xs, as far as they fit
+-- the trips of the join up to some are spelled at the front of xs, where they fit
 pub record Joined (x y xs : List ℕ) (s : stage.Stage) (ts us : List Trip) : Type 0 where
   pub passed : List Trip
   pub joins : joinedTrips x y ≡ passed ++ join ts us
@@ -52,7 +52,7 @@ pub record Joining (x y xs : List ℕ) (s : stage.Stage) : Type 0 where
   pub first : HeadAt x (s .i) (s .a)
   pub second : HeadAt y (s .j) (s .b)
   pub shorter : s .end ≤ s .i + s .j
-  pub small : (length x ≤ greatestList) × (length y ≤ greatestList) × (greatestList + 2 * greatestLine ≤ length xs)
+  pub lengths : (length x ≤ greatestList) × (length y ≤ greatestList) × (greatestList + 2 * greatestLine ≤ length xs)
   pub joined : Trips (parse x) → Trips (parse y) → Joined x y xs s (tripsOf (from x (s .i) (first .least))) (tripsOf (from y (s .j) (second .least)))
 
 -- a place in one of the lists, and the stage that it makes with one in the other
@@ -66,14 +66,14 @@ asSecond p i a g = record { i = i; a = a; j = p .at; b = p .line; end = p .end; 
 pub record Placed (list xs : List ℕ) (p : place.Place) : Type 0 where
   pub head : HeadAt list (p .at) (p .line)
   pub short : length list ≤ greatestList
-  pub small : p .end + length list ≤ 2 * greatestList + p .at
+  pub fits : p .end + length list ≤ 2 * greatestList + p .at
   pub room : greatestList + 2 * greatestLine ≤ length xs
 
 -- from one place to another: the lines between are joined next, where the other list's next line has a minute of at least `limit`
-pub record Spelt (list : List ℕ) (limit : ℕ) (xs : List ℕ) (p : place.Place) (ys : List ℕ) (q : place.Place) : Type 0 where
+pub record Advanced (list : List ℕ) (limit : ℕ) (xs : List ℕ) (p : place.Place) (ys : List ℕ) (q : place.Place) : Type 0 where
   pub first : (y : List ℕ) (j : ℕ) (b : line.Line) (g : Bool) → limit ≤ b .minute → Joining list y xs (asFirst p j b g) → Joining list y ys (asFirst q j b g)
   pub second : (x : List ℕ) (i : ℕ) (a : line.Line) (g : Bool) → limit ≤ a .minute → Joining x list xs (asSecond p i a g) → Joining x list ys (asSecond q i a g)
-  pub from : p .at ≤ q .at
-  -- where it stops at `limit` and could go on, it does
+  pub forward : p .at ≤ q .at
+  -- where the first line is below `limit`, the index has moved
   pub on : p .line .minute < limit → limit ≤ q .line .minute → p .at < q .at
   pub same : length ys ≡ length xs

@@ -11,13 +11,14 @@ ghost use lib.ListN.{length, take, drop};
 ghost use Rattle.answer.specs.Coded.{coded};
 ghost use Rattle.answer.specs.Admission.{ifDone};
 ghost use Rattle.memory.specs.Bytes.{part, overwrite};
+ghost use Rattle.scan.specs.Scan.{sameBytes};
 ghost use Rattle.text.specs.Decimal.{leadingZeros};
 ghost use Rattle.trip_list.specs.List.{greatestList, listAnswer, writeAnswer, written};
 ghost use Rattle.trip_list.specs.Lines.{firstTrip};
-ghost use Rattle.trip_list.specs.Scanner.{greatestLine, LineAt, spelledLine};
-ghost use Rattle.trip_join.specs.Join.{sameBytes, sameRest, joinAnswer, joined};
-ghost use Rattle.trip_writer.specs.Spelling.{KeptAt};
-ghost use Rattle.trip_writer.specs.Joining.{noMinute, Headed, Placed, Spelt, Joining};
+ghost use Rattle.trip_list.specs.Scanner.{greatestLine, LineAt};
+ghost use Rattle.trip_join.specs.Join.{sameRest, joinAnswer, joined};
+ghost use Rattle.trip_writer.specs.Spelling.{spelledLine, KeptAt};
+ghost use Rattle.trip_writer.specs.Joining.{noMinute, Headed, Placed, Advanced, Joining};
 
 // The longest list.
 const MAX_LIST: usize = 4096;
@@ -25,7 +26,7 @@ const MAX_LIST: usize = 4096;
 // The longest line: two numbers, a driver, and a mark after each.
 const MAX_LINE: usize = 39;
 
-// The longest list, and two windows after it.
+// The longest list, and after it the longest line twice: a line is copied as two pieces of that length.
 const ROOM: usize = 4174;
 
 // ---- one line
@@ -51,8 +52,8 @@ fn leading_zeros(text: &[u8], digits: usize) -> usize
 
 // Where in the list the digits begin that a spelling keeps, of the minute and of the metres.
 struct Kept {
-    first: usize,
-    third: usize,
+    minute: usize,
+    metres: usize,
 }
 
 fn kept_from(list: &[u8], at: usize, line: Line) -> Kept
@@ -61,8 +62,8 @@ fn kept_from(list: &[u8], at: usize, line: Line) -> Kept
 {
     let second = at + line.second;
     Kept {
-        first: at + leading_zeros(&list[at..], line.second - 1),
-        third: second + leading_zeros(&list[second..], line.driver - line.second - 1),
+        minute: at + leading_zeros(&list[at..], line.second - 1),
+        metres: second + leading_zeros(&list[second..], line.driver - line.second - 1),
     }
 }
 
@@ -96,7 +97,7 @@ fn put_window(output: &mut [u8], end: usize, list: &[u8], first: usize)
     copy_window(&mut output[end..], &list[first..]);
 }
 
-// The same of those up to `next`.
+// The same, of the bytes from `first` up to `next`.
 fn put_piece(output: &mut [u8], end: usize, list: &[u8], first: usize, next: usize)
     requires { ⌜ (first ≤ next) × (next ≤ length (now list)) × (end + (next - first) ≤ length (now output)) ⌝ }
     ensures { λ r. ⌜ now (output .exit) ≡ overwrite (now (output .entry)) end (part (now (list .entry)) first (next - first)) ⌝ }
@@ -112,9 +113,9 @@ fn put_line(list: &[u8], at: usize, line: Line, output: &mut [u8], end: usize) -
         × (take r (now (output .exit)) ≡ take end (now (output .entry)) ++ spelledLine (now (list .entry)) at) ⌝ }
 {
     let kept = kept_from(list, at, line);
-    let first = kept.first;
+    let first = kept.minute;
     let second = at + line.second;
-    let third = kept.third;
+    let third = kept.metres;
     let next = at + line.length;
     let middle = end + (second - first);
     // Windows where the list has them: the second is laid over what the first has beyond its piece.
@@ -153,14 +154,14 @@ fn head(list: &[u8], at: usize, least: usize) -> Line
 }
 
 // The one spelling of the line that starts at index `at` is laid over the output from `end` on, where that is within the longest list.
-// The index after it comes back, wherever that is.
+// The index after it comes back, wherever that is. Past the longest list nothing else is told.
 fn put_within(list: &[u8], at: usize, line: Line, output: &mut [u8], end: usize) -> usize
     requires { ⌜ LineAt (now list) at line × (greatestList + 2 * greatestLine ≤ length (now output)) × (end ≤ 2 * greatestList) ⌝ }
     ensures { λ r. ⌜ (r ≡ end + length (spelledLine (now (list .entry)) at))
         × (r ≤ greatestList → take r (now (output .exit)) ≡ take end (now (output .entry)) ++ spelledLine (now (list .entry)) at) ⌝ }
 {
-    let place = number::min(end, MAX_LIST);
-    end + (put_line(list, at, line, output, place) - place)
+    let start = number::min(end, MAX_LIST);
+    end + (put_line(list, at, line, output, start) - start)
 }
 
 // A line of a list, its index, and the index in the output where its spelling would begin.
@@ -170,10 +171,10 @@ struct Place {
     end: usize,
 }
 
-// The one spelling of the lines from a place on whose minutes are below `limit`. The place after them comes back.
+// Spells the lines from a place on whose minutes are below `limit`. The place after them comes back.
 fn spell_below(list: &[u8], place: Place, limit: usize, output: &mut [u8]) -> Place
     requires { ⌜ Placed (now list) (now output) place × (limit ≤ noMinute) ⌝ }
-    ensures { λ r. ⌜ Spelt (now (list .entry)) limit (now (output .entry)) place (now (output .exit)) r × (limit ≤ r .line .minute) ⌝ }
+    ensures { λ r. ⌜ Advanced (now (list .entry)) limit (now (output .entry)) place (now (output .exit)) r × (limit ≤ r .line .minute) ⌝ }
 {
     let mut at = place.at;
     let mut line = place.line;
@@ -213,15 +214,15 @@ fn same_rest(first: &[u8], i: usize, a: Line, second: &[u8], j: usize, b: Line) 
     if a.metres != b.metres {
         return false;
     }
-    let start = i + a.driver;
-    let end = start + a.letters;
-    let start2 = j + b.driver;
-    let end2 = start2 + b.letters;
-    same_bytes(&first[start..end], &second[start2..end2])
+    let a_start = i + a.driver;
+    let a_end = a_start + a.letters;
+    let b_start = j + b.driver;
+    let b_end = b_start + b.letters;
+    same_bytes(&first[a_start..a_end], &second[b_start..b_end])
 }
 
-// How far two lists are joined: the index of the next line of each, and that line; the bytes of the joined list up to there; whether
-// the lists agree up to there.
+// How far two lists are joined: the index of the next line of each, and that line; how many bytes the joined list has up to there;
+// whether the lists agree up to there.
 struct Stage {
     i: usize,
     a: Line,
@@ -237,16 +238,16 @@ fn both(a: bool, b: bool) -> bool
     if a { b } else { false }
 }
 
-fn pick_list<'a>(first: bool, a: &'a [u8], b: &'a [u8]) -> &'a [u8]
-    ensures { λ r. ⌜ now r ≡ cond first (now (a .entry)) (now (b .entry)) ⌝ }
+fn pick_list<'a>(choose: bool, a: &'a [u8], b: &'a [u8]) -> &'a [u8]
+    ensures { λ r. ⌜ now r ≡ cond choose (now (a .entry)) (now (b .entry)) ⌝ }
 {
-    if first { a } else { b }
+    if choose { a } else { b }
 }
 
-fn pick_place(first: bool, a: Place, b: Place) -> Place
-    ensures { λ r. ⌜ r ≡ cond first a b ⌝ }
+fn pick_place(choose: bool, a: Place, b: Place) -> Place
+    ensures { λ r. ⌜ r ≡ cond choose a b ⌝ }
 {
-    if first { a } else { b }
+    if choose { a } else { b }
 }
 
 // The next trips of the join: those of one list that come before the next of the other. Of two of one minute the second list's is
@@ -284,7 +285,7 @@ fn join_next<'a>(first: &'a [u8], second: &'a [u8], s: Stage, output: &mut [u8])
         line: b,
         end,
     };
-    // One call for both lists, which the compiler inlines.
+    // One call of spell_below for both lists.
     let list = pick_list(from_second, second, first);
     let start = pick_place(from_second, of_second, of_first);
     let limit = number::max(a.minute, b.minute);
@@ -319,7 +320,7 @@ fn next_minute(s: Stage) -> usize
     number::min(a.minute, b.minute)
 }
 
-// The one spelling of the join of two lists is laid over the front of the output, up to its end or that of the longest list. Each list
+// The join of two lists is spelled at the front of the output, where it fits the longest list; it is counted in any case. Each list
 // is gone through to its end or to the first line that is refused.
 fn join_lines<'a>(first: &'a [u8], second: &'a [u8], output: &mut [u8]) -> Stage
     requires { ⌜ (length (now first) ≤ greatestList) × (length (now second) ≤ greatestList) × (greatestList + 2 * greatestLine ≤ length (now output)) ⌝ }
@@ -344,7 +345,7 @@ fn join_lines<'a>(first: &'a [u8], second: &'a [u8], output: &mut [u8]) -> Stage
 // ---- the calls
 
 // Writes the one spelling of a list to the front of a buffer of 4,096 bytes, and counts its bytes. It is spelled into an array
-// first: a bad line must leave the buffer as it came. A list joined with no other is its own spelling.
+// first: a bad line must leave the buffer as it came. Joined with the empty list, a list gives its one spelling.
 pub fn write(list: &[u8], buffer: &mut [u8]) -> Answer
     ensures { λ r. ⌜ (coded r ≡ writeAnswer (now (list .entry)) (now (buffer .entry)))
         × (now (buffer .exit) ≡ written (now (list .entry)) (now (buffer .entry))) ⌝ }

@@ -114,7 +114,7 @@ impl fmt::Debug for Trips<'_> {
 /// answers the part of the buffer that has it; the rest keeps its bytes. All
 /// lists of the same trips share it, and no others do.
 ///
-/// The call takes about 4 KB of stack, for the spelled list.
+/// The call takes about 5 KB of stack, most of it for the spelled list.
 ///
 /// ```
 /// use boxstore::{write_trips, LIST_BYTES};
@@ -135,12 +135,13 @@ pub fn write_trips<'a>(list: &[u8], buffer: &'a mut [u8; LIST_BYTES]) -> Result<
 /// and answers the part of the buffer that has it; the rest keeps its bytes. A
 /// trip that both lists have is there once.
 ///
-/// The first list is checked before the second. Then the join is refused with
-/// [`Error::TripConflict`] where a minute has other metres or another driver in
+/// The first list is checked as [`trips`] checks it, and refused with
+/// [`Error::Range`], [`Error::TripForm`] or [`Error::TripOrder`]; then the second.
+/// Then the join is refused with [`Error::TripConflict`] where a minute has other metres or another driver in
 /// the second list, else with [`Error::TripsTooLong`] where the joined list is
 /// longer than [`LIST_BYTES`].
 ///
-/// The call takes about 4 KB of stack, for the joined list.
+/// The call takes about 5 KB of stack, most of it for the joined list.
 ///
 /// ```
 /// use boxstore::{join_trips, Error, LIST_BYTES};

@@ -4,7 +4,7 @@ use native.Mathlib.Omega.{arith}
 use borrow.Author.Needs.{needs}
 use Rattle.memory.proofs.Bytes.{length-front}
 use Rattle.trip_writer.proofs.Joining.{walk-refused, ended}
-use Rattle.trip_writer.proofs.Answers.{join-shape, join-long, join-first, join-second, join-conflict, join-too-long, join-done}
+use Rattle.trip_writer.proofs.Answers.{join-shape, join-long, first-bad, second-bad, join-conflict, join-too-long, join-fits}
 use Rattle.trip_writer.proofs.join.Statement.{statement}
 use Rattle.trip_writer.proofs.join.Tie as tie
 
@@ -32,7 +32,7 @@ refused-requires-2 c κs = search needs
 returns-3 : tie.Need-returns-3
 returns-3 c =
     let w = c .before .before .before .before .join-lines .ensures in
-    join-first _ _ _ (omega arith) _ (c .refused2 .ensures) (walk-refused _ _ _ (w .0 .first) (omega (arith, w .1)) (omega arith))
+    first-bad _ _ _ (omega arith) _ (c .refused2 .ensures) (walk-refused _ _ _ (w .0 .first) (omega (arith, w .1)) (omega arith))
 
 refused-requires-3 : tie.Need-refused-requires-3
 refused-requires-3 c κs = search needs
@@ -40,12 +40,12 @@ refused-requires-3 c κs = search needs
 returns-4 : tie.Need-returns-4
 returns-4 c =
     let w = c .before .before .before .before .before .before .join-lines .ensures in
-    join-second _ _ _ (omega arith) _ (c .refused3 .ensures) (walk-refused _ _ _ (w .0 .second) (omega (arith, w .1)) (omega arith))
+    second-bad _ _ _ (omega arith) _ (c .refused3 .ensures) (walk-refused _ _ _ (w .0 .second) (omega (arith, w .1)) (omega arith))
 
 returns-5 : tie.Need-returns-5
 returns-5 c =
     let w = c .before .before .before .before .before .before .before .join-lines .ensures in
-    join-too-long _ _ _ (omega arith) (w .0 .small .0) (w .0 .small .1) _ _ (ended _ _ _ _ (w .0) (w .1) (omega arith) (omega arith)) (c .before .if5 .taken) (omega arith)
+    join-too-long _ _ _ (omega arith) (w .0 .lengths .0) (w .0 .lengths .1) _ _ (ended _ _ _ _ (w .0) (w .1) (omega arith) (omega arith)) (c .before .if5 .taken) (omega arith)
 
 array-share-prefix-spelled : tie.Need-array-share-prefix-spelled
 array-share-prefix-spelled c = search needs
@@ -62,12 +62,12 @@ same-length c = search needs
 returns-6 : tie.Need-returns-6
 returns-6 c =
     let w = c .before .before .before .before .before .before .before .before .before .before .before .before .join-lines .ensures in
-    join-done _ _ _ (omega arith) (w .0 .small .0) (w .0 .small .1) _ _ (ended _ _ _ _ (w .0) (w .1) (omega arith) (omega arith)) (c .before .before .before .before .before .before .if5 .taken) (omega arith) _ (c .before .before .copy .ensures)
+    join-fits _ _ _ (omega arith) (w .0 .lengths .0) (w .0 .lengths .1) _ _ (ended _ _ _ _ (w .0) (w .1) (omega arith) (omega arith)) (c .before .before .before .before .before .before .if5 .taken) (omega arith) _ (c .before .before .copy .ensures)
 
 returns-7 : tie.Need-returns-7
 returns-7 c =
     let w = c .before .before .before .before .before .before .join-lines .ensures in
-    join-conflict _ _ _ (omega arith) (w .0 .small .0) (w .0 .small .1) _ _ (ended _ _ _ _ (w .0) (w .1) (omega arith) (omega arith)) (c .if5 .left)
+    join-conflict _ _ _ (omega arith) (w .0 .lengths .0) (w .0 .lengths .1) _ _ (ended _ _ _ _ (w .0) (w .1) (omega arith) (omega arith)) (c .if5 .left)
 
 pub join-spec : {M : Type 1} → statement M
 join-spec =

@@ -7,7 +7,7 @@ use native.Mathlib.Omega.{arith}
 use lib.Dec.{ltb}
 use borrow.Author.Tests.{ltb-true, ltb-false}
 use Rattle.trip_writer.specs.Joining.{noMinute}
-use Rattle.trip_writer.proofs.Joining.{picked-placed, first-here, second-here, second-on, skip-next, first-spelt, second-spelt}
+use Rattle.trip_writer.proofs.Joining.{picked-placed, first-here, second-here, second-on, skip-next, first-advanced, second-advanced}
 use Rattle.trip_writer.proofs.join_next.Statement.{statement}
 use Rattle.trip_writer.proofs.join_next.Tie as tie
 
@@ -62,7 +62,7 @@ returns-2 : tie.Need-returns-2
 returns-2 c =
     let k = c .before .before .before .before .before .before .before .before .before .before .before .before .before .before .before .before .before .before .before in
     let e = c .before .before .before .before .spell-below .ensures in
-    second-spelt _ _ _ _ _ (k .pre .0) _ _ _ _ (e .0) (e .1) (rw (c .if2 .taken) at (c .before .before .before .before .before .before .before .before .pick-list .ensures)) (rw (c .if2 .taken) at (c .before .before .before .before .before .before .before .pick-place .ensures)) (c .before .before .before .before .before .before .max .ensures) (ltb-true _ _ (c .if2 .taken))
+    second-advanced _ _ _ _ _ (k .pre .0) _ _ _ _ (e .0) (e .1) (rw (c .if2 .taken) at (c .before .before .before .before .before .before .before .before .pick-list .ensures)) (rw (c .if2 .taken) at (c .before .before .before .before .before .before .before .pick-place .ensures)) (c .before .before .before .before .before .before .max .ensures) (ltb-true _ _ (c .if2 .taken))
 
 same-length-2 : tie.Need-same-length-2
 same-length-2 c = search needs
@@ -77,7 +77,7 @@ returns-3 : tie.Need-returns-3
 returns-3 c =
     let k = c .before .before .before .before .before .before .before .before .before .before .before .before .before .before .before .before .before .before .before in
     let e = c .before .before .before .before .spell-below .ensures in
-    first-spelt _ _ _ _ _ (k .pre .0) _ _ _ _ (e .0) (e .1) (rw (c .if2 .left) at (c .before .before .before .before .before .before .before .before .pick-list .ensures)) (rw (c .if2 .left) at (c .before .before .before .before .before .before .before .pick-place .ensures)) (c .before .before .before .before .before .before .max .ensures) (less c)
+    first-advanced _ _ _ _ _ (k .pre .0) _ _ _ _ (e .0) (e .1) (rw (c .if2 .left) at (c .before .before .before .before .before .before .before .before .pick-list .ensures)) (rw (c .if2 .left) at (c .before .before .before .before .before .before .before .pick-place .ensures)) (c .before .before .before .before .before .before .max .ensures) (less c)
 
 pub join-next-spec : {M : Type 1} → statement M
 join-next-spec =

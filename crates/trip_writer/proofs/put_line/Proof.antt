@@ -13,7 +13,7 @@ use Rattle.trip_writer.proofs.put_line.Tie as tie
 
 -- the pieces stand in order, within the list, and there is room for them
 order : (c : tie.After-kept-from) → let a = c .before .before .before .args in let r = c .kept-from .result in
-    (r .first ≤ a .at + a .line .second) × (a .at + a .line .second ≤ r .third) × (r .third ≤ a .at + a .line .length)
+    (r .minute ≤ a .at + a .line .second) × (a .at + a .line .second ≤ r .metres) × (r .metres ≤ a .at + a .line .length)
     × (a .at + a .line .length ≤ length (a .list .now)) × (a .line .length ≤ greatestLine) × (a .end + 2 * greatestLine ≤ length (a .output .now))
 order c =
     let p = c .before .before .before .pre in
@@ -71,7 +71,7 @@ returns c =
     let pieces = put-pieces (a .list .now) (a .at) (a .line) (k .pre .0) z e (a .output .now) (a .end) (k .pre .1) (length-fits _ _ _ (k .pre .0)) in (
       omega (arith, o, spelled-length _ _ _ (k .pre .0) _ e),
       ⊎-elim (λ w. pieces _ (c .if1 .output) greatestLine greatestLine (omega (arith, o)) (omega (arith, o, w .0)) (omega arith) (omega (arith, o)) (omega (arith, o, w .0)) (omega arith) (w .2 .ensures) (rw (w .9) (w .6 .ensures)))
-          (λ w. pieces _ (c .if1 .output) (a .at + a .line .second - z .first) (a .at + a .line .length - z .third) (omega (arith, o)) (omega (arith, o)) (omega (arith, o)) (omega (arith, o)) (omega (arith, o)) (omega (arith, o))
+          (λ w. pieces _ (c .if1 .output) (a .at + a .line .second - z .minute) (a .at + a .line .length - z .metres) (omega (arith, o)) (omega (arith, o)) (omega (arith, o)) (omega (arith, o)) (omega (arith, o)) (omega (arith, o))
           (w .2 .ensures) (rw (w .9) (w .6 .ensures)))
           (c .if1 .came),
     )

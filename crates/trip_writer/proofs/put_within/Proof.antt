@@ -2,7 +2,7 @@
 use native.Mathlib.Omega.{arith}
 use borrow.Author.Needs.{needs}
 use Rattle.trip_list.proofs.Stepping.{length-fits}
-use Rattle.trip_list.specs.Scanner.{spelledLine}
+use Rattle.trip_writer.specs.Spelling.{spelledLine}
 use Rattle.trip_writer.proofs.Pieces.{spelled-shorter}
 use Rattle.trip_writer.proofs.Joining.{within-laid}
 use Rattle.trip_writer.proofs.put_within.Statement.{statement}

@@ -4,8 +4,8 @@ use Prim.Native.Nat.{_-_}
 use native.Mathlib.Omega.{arith}
 use lib.ListN.{length, drop}
 use borrow.Author.Needs.{needs}
-use Rattle.trip_join.specs.Join.{sameBytes}
-use Rattle.trip_join.proofs.Laws.{same-next, same-stop, same-end, same-length}
+use Rattle.scan.specs.Scan.{sameBytes}
+use Rattle.scan.proofs.Same.{same-next, same-stop, same-end, same-length}
 use Rattle.trip_writer.proofs.same_bytes.Statement.{statement}
 use Rattle.trip_writer.proofs.same_bytes.Tie as tie
 

@@ -15,17 +15,17 @@ inside c = (driver-inside _ _ _ (c .pre .0), driver-inside _ _ _ (c .pre .1))
 returns : tie.Need-returns
 returns c = let k = c .before .before .before .before .before in metres-differ _ _ _ (k .pre .0) _ _ _ (k .pre .1) (c .if1 .taken)
 
-add-start : tie.Need-add-start
-add-start c = omega (arith, inside (c .before .before .before .before .before .before))
+add-a-start : tie.Need-add-a-start
+add-a-start c = omega (arith, inside (c .before .before .before .before .before .before))
 
-add-end : tie.Need-add-end
-add-end c = omega (arith, inside (c .before .before .before .before .before .before .before))
+add-a-end : tie.Need-add-a-end
+add-a-end c = omega (arith, inside (c .before .before .before .before .before .before .before))
 
-add-start2 : tie.Need-add-start2
-add-start2 c = omega (arith, inside (c .before .before .before .before .before .before .before .before))
+add-b-start : tie.Need-add-b-start
+add-b-start c = omega (arith, inside (c .before .before .before .before .before .before .before .before))
 
-add-end2 : tie.Need-add-end2
-add-end2 c = omega (arith, inside (c .before .before .before .before .before .before .before .before .before))
+add-b-end : tie.Need-add-b-end
+add-b-end c = omega (arith, inside (c .before .before .before .before .before .before .before .before .before))
 
 sub-same-bytes : tie.Need-sub-same-bytes
 sub-same-bytes c = search needs
@@ -61,10 +61,10 @@ same-rest-spec =
     tie.close
     (tie.spec
     returns
-    add-start
-    add-end
-    add-start2
-    add-end2
+    add-a-start
+    add-a-end
+    add-b-start
+    add-b-end
     sub-same-bytes
     part-same-bytes-start
     part-same-bytes-end
