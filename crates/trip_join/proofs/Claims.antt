@@ -90,9 +90,9 @@ members-from n (x ∷ xs) (y ∷ ys) e f to back =
     rw (first, rest)
 
 -- two valid lists with the same trips are one
-pub members-told : (xs ys : List Trip) → valid xs ≡ true → valid ys ≡ true
+pub same-members : (xs ys : List Trip) → valid xs ≡ true → valid ys ≡ true
     → ((t : Trip) → List·Memᴰ t xs → List·Memᴰ t ys) → ((t : Trip) → List·Memᴰ t ys → List·Memᴰ t xs) → xs ≡ ys
-members-told = members-from 0
+same-members = members-from 0
 
 -- ---- which lists agree
 
@@ -266,7 +266,7 @@ module _ (xs ys : List Trip) (ex : valid xs ≡ true) (ey : valid ys ≡ true) w
   pub only-join : (zs : List Trip) → IsJoin xs ys zs → zs ≡ join xs ys
   only-join zs j =
       let k = is-join (joined-agree xs ys zs j) in
-      members-told zs (join xs ys) (j .order) (k .order)
+      same-members zs (join xs ys) (j .order) (k .order)
       (λ t m. ⊎-elim (k .first t) (k .second t) (j .others t m))
       (λ t m. ⊎-elim (j .first t) (j .second t) (k .others t m))
 
