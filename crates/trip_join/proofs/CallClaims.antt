@@ -18,9 +18,9 @@ use Rattle.trip_list.specs.Trip.{Trip, spell}
 use Rattle.trip_list.specs.List.{Parsed, trips, parse, parseFrom, tripsOf, answerOf, greatestList, listAnswer, spelling, writeAnswer, written}
 use Rattle.trip_list.proofs.Parsing.{list-count, accepted-short}
 use Rattle.trip_list.proofs.CallClaims as lists
-use Rattle.trip_list.proofs.Claims.{parse-spell, spell-accepted, trips-valid, never-longer, parsed-again, accepted-again}
+use Rattle.trip_list.proofs.Claims.{parse-spell, spell-accepted, trips-valid, minutes-rise, never-longer, parsed-again, accepted-again}
 use Rattle.trip_join.specs.Join.{agree, joinedTrips, joinedText, joinAnswer, joined}
-use Rattle.trip_join.proofs.Claims.{Conflict, disagree, conflict-disagree, agree-commutes, agree-self, agree-none, none-agree, IsJoin, is-join, only-join, join-commutes, join-self, join-none}
+use Rattle.trip_join.proofs.Claims.{Conflict, disagree, conflict-disagree, agree-commutes, agree-self, agree-none, none-agree, valid-once, IsJoin, is-join, only-join, join-commutes, join-self, join-none}
 
 abbrev pub tripsIn : List ℕ → List Trip
 tripsIn list = tripsOf (parse list)
@@ -228,11 +228,13 @@ module _ (x y buffer : List ℕ) (n : ℕ) (e : joinAnswer x y buffer ≡ done n
   pub output-trips : parse (take n (joined x y buffer)) ≡ trips (joinedTrips x y)
   output-trips = ap parse done-front ∙ parse-spell (joinedTrips x y) (trips-joined .order)
 
-  -- it is accepted, and the reader counts the joined trips
-  pub output-accepted : listAnswer (take n (joined x y buffer)) ≡ done (length (joinedTrips x y))
+  -- it is accepted, and the reader counts its trips
+  pub output-accepted : listAnswer (take n (joined x y buffer)) ≡ done (length (tripsIn (take n (joined x y buffer))))
   output-accepted =
       let short : length (joinedText x y) ≤ 4096 = omega (arith, shown .count, shown .short) in
-      ap listAnswer done-front ∙ spell-accepted (joinedTrips x y) (trips-joined .order) short
+      ap listAnswer done-front
+      ∙ spell-accepted (joinedTrips x y) (trips-joined .order) short
+      ∙ ap (λ (p : Parsed). done (length (tripsOf p))) (sym output-trips)
 
   -- it is its own spelling
   pub output-again : spelling (take n (joined x y buffer)) ≡ take n (joined x y buffer)
@@ -249,6 +251,16 @@ module _ (x y buffer : List ℕ) (n : ℕ) (e : joinAnswer x y buffer ≡ done n
   -- and no others
   pub has-no-other : (t : Trip) → List·Memᴰ t (tripsIn (take n (joined x y buffer))) → List·Memᴰ t (tripsIn x) ⊎ List·Memᴰ t (tripsIn y)
   has-no-other = output-join .others
+
+  -- the minutes of its trips rise strictly
+  pub output-rise : (d : Trip) (i j : ℕ) → i < j → j < length (tripsIn (take n (joined x y buffer)))
+      → getD (tripsIn (take n (joined x y buffer))) i d .minute < getD (tripsIn (take n (joined x y buffer))) j d .minute
+  output-rise d = minutes-rise 0 (tripsIn (take n (joined x y buffer))) d (output-join .order)
+
+  -- none of them appears twice
+  pub output-once : (d : Trip) (i j : ℕ) → i < length (tripsIn (take n (joined x y buffer))) → j < length (tripsIn (take n (joined x y buffer)))
+      → getD (tripsIn (take n (joined x y buffer))) i d ≡ getD (tripsIn (take n (joined x y buffer))) j d → i ≡ j
+  output-once = valid-once (tripsIn (take n (joined x y buffer))) (output-join .order)
 
   -- no other bytes that are their own spelling have these trips
   pub output-only : (z : List ℕ) → spelling z ≡ z → IsJoin (tripsIn x) (tripsIn y) (tripsIn z) → z ≡ take n (joined x y buffer)

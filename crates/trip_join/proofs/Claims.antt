@@ -217,6 +217,16 @@ has-second (a ∷ xs) ys t e m =
 
 -- ---- its order
 
+-- no trip appears twice in a valid list
+pub valid-once : (zs : List Trip) → valid zs ≡ true → (d : Trip) (i j : ℕ) → i < length zs → j < length zs → getD zs i d ≡ getD zs j d → i ≡ j
+valid-once zs e d i j h k q =
+    let m = ap (λ (t : Trip). t .minute) q in
+    split-eq i j
+    (λ same. same)
+    (λ other. split-lt i j
+    (λ l. absurd (omega (arith, m, minutes-rise 0 zs d e i j l k)))
+    (λ l. absurd (omega (arith, m, minutes-rise 0 zs d e j i (omega arith) h))))
+
 module _ (xs ys : List Trip) (ex : valid xs ≡ true) (ey : valid ys ≡ true) where
   -- it is valid
   pub joined-valid : valid (join xs ys) ≡ true
@@ -228,11 +238,7 @@ module _ (xs ys : List Trip) (ex : valid xs ≡ true) (ey : valid ys ≡ true) w
 
   -- no trip appears twice
   pub joined-once : (d : Trip) (i j : ℕ) → i < length (join xs ys) → j < length (join xs ys) → getD (join xs ys) i d ≡ getD (join xs ys) j d → i ≡ j
-  joined-once d i j h k q =
-      let m = ap (λ (t : Trip). t .minute) q in
-      split-eq i j
-      (λ e. e)
-      (λ e. split-lt i j (λ l. absurd (omega (arith, m, joined-rise d i j l k))) (λ l. absurd (omega (arith, m, joined-rise d j i (omega arith) h))))
+  joined-once = valid-once (join xs ys) joined-valid
 
 -- ---- it is the one list of its kind
 
