@@ -60,6 +60,7 @@ rows =
     ∷ refusedRow (nines 4097) (ascii "7,12") (nines 4096) RANGE
     ∷ []
 
+-- the answer of each row
 pub rows-answered : map (λ (r : Row). joinAnswer (r .first) (r .second) (r .buffer)) rows ≡ map (λ (r : Row). r .answer) rows
 unfolding joinAnswer listAnswer parse parseFrom hasForm tripOf isNumeral isDriver isDriverByte spellTrip decimal sameRest agreeing agree
 rows-answered = refl
