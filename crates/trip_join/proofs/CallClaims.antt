@@ -6,20 +6,21 @@ use mathlib.Core.List.{List, [], _++_, List·Memᴰ}
 use Prim.Native.Nat.{ℕ, _+_, _≤_, _<_}
 use native.Mathlib.Omega.{arith}
 use lib.Dec.{eqb}
-use lib.ListN.{length, take, drop}
+use lib.ListN.{length, getD, take, drop}
 use lib.Seq.{take-at, drop-at}
 use borrow.Author.Tests.{eq-eqb, ne-eqb, le-leb, lt-leb}
 use borrow.Table.Steps.{cases}
-use Rattle.answer.specs.Coded.{Coded, done, SHAPE, TRIP-CONFLICT, TRIPS-TOO-LONG}
+use Rattle.answer.specs.Coded.{Coded, done, SHAPE, RANGE, TRIP-FORM, TRIP-ORDER, TRIP-CONFLICT, TRIPS-TOO-LONG}
 use Rattle.memory.proofs.Bytes.{length-overwrite, overwrite-cut}
 use Rattle.memory.proofs.Cases.{split-eq, split-lt}
 use Rattle.scan.proofs.Scan.{true-not-false}
 use Rattle.trip_list.specs.Trip.{Trip, spell}
-use Rattle.trip_list.specs.List.{Parsed, trips, parse, parseFrom, tripsOf, greatestList, listAnswer, spelling, writeAnswer, written}
+use Rattle.trip_list.specs.List.{Parsed, trips, parse, parseFrom, tripsOf, answerOf, greatestList, listAnswer, spelling, writeAnswer, written}
 use Rattle.trip_list.proofs.Parsing.{list-count, accepted-short}
-use Rattle.trip_list.proofs.Claims.{parse-spell, spell-accepted, trips-valid, never-longer, parsed-again, accepted-again}
+use Rattle.trip_list.proofs.CallClaims as lists
+use Rattle.trip_list.proofs.Claims.{parse-spell, spell-accepted, trips-valid, minutes-rise, never-longer, parsed-again, accepted-again}
 use Rattle.trip_join.specs.Join.{agree, joinedTrips, joinedText, joinAnswer, joined}
-use Rattle.trip_join.proofs.Claims.{Conflict, disagree, conflict-disagree, agree-commutes, agree-self, agree-none, none-agree, IsJoin, is-join, only-join, join-commutes, join-self, join-none}
+use Rattle.trip_join.proofs.Claims.{Conflict, disagree, conflict-disagree, agree-commutes, agree-self, agree-none, none-agree, valid-once, IsJoin, is-join, only-join, join-commutes, join-self, join-none}
 
 abbrev pub tripsIn : List ℕ → List Trip
 tripsIn list = tripsOf (parse list)
@@ -112,6 +113,76 @@ join-count x y buffer = go (every-join x y buffer)
     go (long r free h) = rw (long-refused x y buffer r free h) (omega arith)
     go (fits r free h) = rw (join-done x y buffer r free h) h
 
+-- ---- what an answer shows
+
+number-of : (x y buffer : List ℕ) (a b : Coded) → joinAnswer x y buffer ≡ a → joinAnswer x y buffer ≡ b → a .number ≡ b .number
+number-of x y buffer a b p q = ap (λ (c : Coded). c .number) (sym p ∙ q)
+
+list-number : (list : List ℕ) → listAnswer list .number ≤ 11
+list-number list =
+    split-lt 4096 (length list)
+    (λ h. at RANGE (lists.long-refused list h) (omega arith))
+    (λ h. ⊎-elim
+    (λ a. at (done (length (tripsIn list))) (lists.short-parsed list h ∙ ap answerOf a) (omega arith))
+    (λ bad. ⊎-elim (λ b. at TRIP-FORM (lists.form-answer list h b) (omega arith)) (λ b. at TRIP-ORDER (lists.order-answer list h b) (omega arith)) bad)
+    (lists.every-list list))
+  where
+    at : (a : Coded) → listAnswer list ≡ a → a .number ≤ 11 → listAnswer list .number ≤ 11
+    at a q h = omega (arith, h, ap (λ (c : Coded). c .number) q)
+
+-- done is given in the last case only
+pub record DoneJoin (x y buffer : List ℕ) (n : ℕ) : Type 0 where
+  pub ready : Ready x y buffer
+  pub free : NoConflict x y
+  pub count : n ≡ length (joinedText x y)
+  pub short : n ≤ 4096
+
+pub done-only : (x y buffer : List ℕ) (n : ℕ) → joinAnswer x y buffer ≡ done n → DoneJoin x y buffer n
+done-only x y buffer n e = go (every-join x y buffer)
+  where
+    number : (a : Coded) → joinAnswer x y buffer ≡ a → a .number ≡ 0
+    number a q = number-of x y buffer a (done n) q e
+
+    go : Case x y buffer → DoneJoin x y buffer n
+    go (shape h) = absurd (omega (arith, number SHAPE (shape-refused x y buffer h)))
+    go (first h a) = absurd (a (number (listAnswer x) (first-refused x y buffer h a)))
+    go (second h a b) = absurd (b (number (listAnswer y) (second-refused x y buffer h a b)))
+    go (conflict r c) = absurd (omega (arith, number TRIP-CONFLICT (conflict-refused x y buffer r c)))
+    go (long r free h) = absurd (omega (arith, number TRIPS-TOO-LONG (long-refused x y buffer r free h)))
+    go (fits r free h) =
+        let q : n ≡ length (joinedText x y) = ap (λ (c : Coded). c .count) (sym e ∙ join-done x y buffer r free h) in
+        record { ready = r; free = free; count = q; short = omega arith }
+
+-- 17 is given for a conflict of accepted lists only
+pub conflict-only : (x y buffer : List ℕ) → joinAnswer x y buffer ≡ TRIP-CONFLICT → Ready x y buffer × Conflict (tripsIn x) (tripsIn y)
+conflict-only x y buffer e = go (every-join x y buffer)
+  where
+    number : (a : Coded) → joinAnswer x y buffer ≡ a → a .number ≡ 17
+    number a q = number-of x y buffer a TRIP-CONFLICT q e
+
+    go : Case x y buffer → Ready x y buffer × Conflict (tripsIn x) (tripsIn y)
+    go (shape h) = absurd (omega (arith, number SHAPE (shape-refused x y buffer h)))
+    go (first h a) = absurd (omega (arith, list-number x, number (listAnswer x) (first-refused x y buffer h a)))
+    go (second h a b) = absurd (omega (arith, list-number y, number (listAnswer y) (second-refused x y buffer h a b)))
+    go (conflict r c) = (r, c)
+    go (long r free h) = absurd (omega (arith, number TRIPS-TOO-LONG (long-refused x y buffer r free h)))
+    go (fits r free h) = absurd (omega (arith, number (done (length (joinedText x y))) (join-done x y buffer r free h)))
+
+-- 18 is given for a text of more than 4,096 bytes, of accepted lists without a conflict, only
+pub long-only : (x y buffer : List ℕ) → joinAnswer x y buffer ≡ TRIPS-TOO-LONG → Ready x y buffer × NoConflict x y × (4096 < length (joinedText x y))
+long-only x y buffer e = go (every-join x y buffer)
+  where
+    number : (a : Coded) → joinAnswer x y buffer ≡ a → a .number ≡ 18
+    number a q = number-of x y buffer a TRIPS-TOO-LONG q e
+
+    go : Case x y buffer → Ready x y buffer × NoConflict x y × (4096 < length (joinedText x y))
+    go (shape h) = absurd (omega (arith, number SHAPE (shape-refused x y buffer h)))
+    go (first h a) = absurd (omega (arith, list-number x, number (listAnswer x) (first-refused x y buffer h a)))
+    go (second h a b) = absurd (omega (arith, list-number y, number (listAnswer y) (second-refused x y buffer h a b)))
+    go (conflict r c) = absurd (omega (arith, number TRIP-CONFLICT (conflict-refused x y buffer r c)))
+    go (long r free h) = (r, free, h)
+    go (fits r free h) = absurd (omega (arith, number (done (length (joinedText x y))) (join-done x y buffer r free h)))
+
 -- ---- the buffer
 
 -- refused, it is as it came
@@ -127,61 +198,43 @@ joined-length x y buffer =
     (λ e. rw e (length-overwrite buffer 0 (joinedText x y)))
     (λ e. rw e)
 
--- what a done answer shows: the last of the six
-pub record DoneJoin (x y buffer : List ℕ) (n : ℕ) : Type 0 where
-  pub ready : Ready x y buffer
-  pub free : NoConflict x y
-  pub count : n ≡ length (joinedText x y)
-  pub short : n ≤ 4096
-
 module _ (x y buffer : List ℕ) (n : ℕ) (e : joinAnswer x y buffer ≡ done n) where
-  pub done-only : DoneJoin x y buffer n
-  done-only = go (every-join x y buffer)
-    where
-      number : (a : Coded) → joinAnswer x y buffer ≡ a → a .number ≡ 0
-      number a q = ap (λ (c : Coded). c .number) (sym q ∙ e)
-
-      go : Case x y buffer → DoneJoin x y buffer n
-      go (shape h) = absurd (omega (arith, number SHAPE (shape-refused x y buffer h)))
-      go (first h a) = absurd (a (number (listAnswer x) (first-refused x y buffer h a)))
-      go (second h a b) = absurd (b (number (listAnswer y) (second-refused x y buffer h a b)))
-      go (conflict r c) = absurd (omega (arith, number TRIP-CONFLICT (conflict-refused x y buffer r c)))
-      go (long r free h) = absurd (omega (arith, number TRIPS-TOO-LONG (long-refused x y buffer r free h)))
-      go (fits r free h) =
-          let q : n ≡ length (joinedText x y) = ap (λ (c : Coded). c .count) (sym e ∙ join-done x y buffer r free h) in
-          record { ready = r; free = free; count = q; short = omega arith }
+  shown : DoneJoin x y buffer n
+  shown = done-only x y buffer n e
 
   joined-cut : joined x y buffer ≡ joinedText x y ++ drop (0 + length (joinedText x y)) buffer
   unfolding joined
   joined-cut =
-      let d = done-only in
+      let d = shown in
       let room : 0 + length (joinedText x y) ≤ length buffer = omega (arith, d .count, d .short, d .ready .room) in
       rw e (overwrite-cut buffer 0 (joinedText x y) room)
 
   -- done, so many bytes in front are the text
   pub done-front : take n (joined x y buffer) ≡ joinedText x y
-  done-front = ap (take n) joined-cut ∙ take-at (joinedText x y) _ n (sym (done-only .count))
+  done-front = ap (take n) joined-cut ∙ take-at (joinedText x y) _ n (sym (shown .count))
 
   -- and those after them are as they came
   pub done-rest : drop n (joined x y buffer) ≡ drop n buffer
   done-rest =
-      let z : 0 + length (joinedText x y) ≡ n = omega (arith, done-only .count) in
-      ap (drop n) joined-cut ∙ drop-at (joinedText x y) _ n (sym (done-only .count)) ∙ ap (λ (k : ℕ). drop k buffer) z
+      let z : 0 + length (joinedText x y) ≡ n = omega (arith, shown .count) in
+      ap (drop n) joined-cut ∙ drop-at (joinedText x y) _ n (sym (shown .count)) ∙ ap (λ (k : ℕ). drop k buffer) z
 
   -- ---- what is written
 
   trips-joined : IsJoin (tripsIn x) (tripsIn y) (joinedTrips x y)
-  trips-joined = is-join (tripsIn x) (tripsIn y) (trips-valid x) (trips-valid y) (agree-of x y (done-only .free))
+  trips-joined = is-join (tripsIn x) (tripsIn y) (trips-valid x) (trips-valid y) (agree-of x y (shown .free))
 
   -- it is parsed as the joined trips
   pub output-trips : parse (take n (joined x y buffer)) ≡ trips (joinedTrips x y)
   output-trips = ap parse done-front ∙ parse-spell (joinedTrips x y) (trips-joined .order)
 
-  -- it is accepted, and the reader counts the joined trips
-  pub output-accepted : listAnswer (take n (joined x y buffer)) ≡ done (length (joinedTrips x y))
+  -- it is accepted, and the reader counts its trips
+  pub output-accepted : listAnswer (take n (joined x y buffer)) ≡ done (length (tripsIn (take n (joined x y buffer))))
   output-accepted =
-      let short : length (joinedText x y) ≤ 4096 = omega (arith, done-only .count, done-only .short) in
-      ap listAnswer done-front ∙ spell-accepted (joinedTrips x y) (trips-joined .order) short
+      let short : length (joinedText x y) ≤ 4096 = omega (arith, shown .count, shown .short) in
+      ap listAnswer done-front
+      ∙ spell-accepted (joinedTrips x y) (trips-joined .order) short
+      ∙ ap (λ (p : Parsed). done (length (tripsOf p))) (sym output-trips)
 
   -- it is its own spelling
   pub output-again : spelling (take n (joined x y buffer)) ≡ take n (joined x y buffer)
@@ -198,6 +251,16 @@ module _ (x y buffer : List ℕ) (n : ℕ) (e : joinAnswer x y buffer ≡ done n
   -- and no others
   pub has-no-other : (t : Trip) → List·Memᴰ t (tripsIn (take n (joined x y buffer))) → List·Memᴰ t (tripsIn x) ⊎ List·Memᴰ t (tripsIn y)
   has-no-other = output-join .others
+
+  -- the minutes of its trips rise strictly
+  pub output-rise : (d : Trip) (i j : ℕ) → i < j → j < length (tripsIn (take n (joined x y buffer)))
+      → getD (tripsIn (take n (joined x y buffer))) i d .minute < getD (tripsIn (take n (joined x y buffer))) j d .minute
+  output-rise d = minutes-rise 0 (tripsIn (take n (joined x y buffer))) d (output-join .order)
+
+  -- none of them appears twice
+  pub output-once : (d : Trip) (i j : ℕ) → i < length (tripsIn (take n (joined x y buffer))) → j < length (tripsIn (take n (joined x y buffer)))
+      → getD (tripsIn (take n (joined x y buffer))) i d ≡ getD (tripsIn (take n (joined x y buffer))) j d → i ≡ j
+  output-once = valid-once (tripsIn (take n (joined x y buffer))) (output-join .order)
 
   -- no other bytes that are their own spelling have these trips
   pub output-only : (z : List ℕ) → spelling z ≡ z → IsJoin (tripsIn x) (tripsIn y) (tripsIn z) → z ≡ take n (joined x y buffer)

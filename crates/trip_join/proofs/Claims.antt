@@ -90,9 +90,9 @@ members-from n (x ∷ xs) (y ∷ ys) e f to back =
     rw (first, rest)
 
 -- two valid lists with the same trips are one
-pub members-told : (xs ys : List Trip) → valid xs ≡ true → valid ys ≡ true
+pub same-members : (xs ys : List Trip) → valid xs ≡ true → valid ys ≡ true
     → ((t : Trip) → List·Memᴰ t xs → List·Memᴰ t ys) → ((t : Trip) → List·Memᴰ t ys → List·Memᴰ t xs) → xs ≡ ys
-members-told = members-from 0
+same-members = members-from 0
 
 -- ---- which lists agree
 
@@ -217,6 +217,16 @@ has-second (a ∷ xs) ys t e m =
 
 -- ---- its order
 
+-- no trip appears twice in a valid list
+pub valid-once : (zs : List Trip) → valid zs ≡ true → (d : Trip) (i j : ℕ) → i < length zs → j < length zs → getD zs i d ≡ getD zs j d → i ≡ j
+valid-once zs e d i j h k q =
+    let m = ap (λ (t : Trip). t .minute) q in
+    split-eq i j
+    (λ same. same)
+    (λ other. split-lt i j
+    (λ l. absurd (omega (arith, m, minutes-rise 0 zs d e i j l k)))
+    (λ l. absurd (omega (arith, m, minutes-rise 0 zs d e j i (omega arith) h))))
+
 module _ (xs ys : List Trip) (ex : valid xs ≡ true) (ey : valid ys ≡ true) where
   -- it is valid
   pub joined-valid : valid (join xs ys) ≡ true
@@ -228,11 +238,7 @@ module _ (xs ys : List Trip) (ex : valid xs ≡ true) (ey : valid ys ≡ true) w
 
   -- no trip appears twice
   pub joined-once : (d : Trip) (i j : ℕ) → i < length (join xs ys) → j < length (join xs ys) → getD (join xs ys) i d ≡ getD (join xs ys) j d → i ≡ j
-  joined-once d i j h k q =
-      let m = ap (λ (t : Trip). t .minute) q in
-      split-eq i j
-      (λ e. e)
-      (λ e. split-lt i j (λ l. absurd (omega (arith, m, joined-rise d i j l k))) (λ l. absurd (omega (arith, m, joined-rise d j i (omega arith) h))))
+  joined-once = valid-once (join xs ys) joined-valid
 
 -- ---- it is the one list of its kind
 
@@ -266,7 +272,7 @@ module _ (xs ys : List Trip) (ex : valid xs ≡ true) (ey : valid ys ≡ true) w
   pub only-join : (zs : List Trip) → IsJoin xs ys zs → zs ≡ join xs ys
   only-join zs j =
       let k = is-join (joined-agree xs ys zs j) in
-      members-told zs (join xs ys) (j .order) (k .order)
+      same-members zs (join xs ys) (j .order) (k .order)
       (λ t m. ⊎-elim (k .first t) (k .second t) (j .others t m))
       (λ t m. ⊎-elim (j .first t) (j .second t) (k .others t m))
 
