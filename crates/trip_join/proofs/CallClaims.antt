@@ -15,15 +15,12 @@ use Rattle.memory.proofs.Bytes.{length-overwrite, overwrite-cut}
 use Rattle.memory.proofs.Cases.{split-eq, split-lt}
 use Rattle.scan.proofs.Scan.{true-not-false}
 use Rattle.trip_list.specs.Trip.{Trip, spell}
-use Rattle.trip_list.specs.List.{Parsed, trips, parse, parseFrom, tripsOf, answerOf, greatestList, listAnswer, spelling, writeAnswer, written}
+use Rattle.trip_list.specs.List.{Parsed, trips, parse, parseFrom, tripsOf, tripsIn, answerOf, greatestList, listAnswer, spelling, writeAnswer, written}
 use Rattle.trip_list.proofs.Parsing.{list-count, accepted-short}
 use Rattle.trip_list.proofs.CallClaims as lists
 use Rattle.trip_list.proofs.Claims.{parse-spell, spell-accepted, trips-valid, minutes-rise, never-longer, parsed-again, accepted-again}
 use Rattle.trip_join.specs.Join.{agree, joinedTrips, joinedText, joinAnswer, joined}
 use Rattle.trip_join.proofs.Claims.{Conflict, disagree, conflict-disagree, agree-commutes, agree-self, agree-none, none-agree, valid-once, IsJoin, is-join, only-join, join-commutes, join-self, join-none}
-
-abbrev pub tripsIn : List ℕ → List Trip
-tripsIn list = tripsOf (parse list)
 
 done-of : (list : List ℕ) → listAnswer list .number ≡ 0 → listAnswer list ≡ done (listAnswer list .count)
 done-of list e = ap (λ (k : ℕ). record { number = k; count = listAnswer list .count }) e

@@ -10,13 +10,14 @@ use lib.ListN.{length, getD}
 use borrow.Author.Tests.{eq-eqb, eqb-false}
 use borrow.Table.Steps.{cases}
 use Rattle.memory.proofs.Cases.{split-eq, split-lt}
-use Rattle.scan.specs.Scan.{every}
+use Rattle.scan.specs.Scan.{every, sameBytes}
 use Rattle.scan.proofs.Scan.{and-left, and-right, is-false, true-not-false}
+use Rattle.scan.proofs.Same.{same-self}
 use Rattle.trip_list.specs.Trip.{Trip}
 use Rattle.trip_list.specs.List.{validFrom, valid}
 use Rattle.trip_list.proofs.Claims.{minutes-rise}
-use Rattle.trip_join.specs.Join.{sameBytes, sameRest, agreeing, agree, insert, join}
-use Rattle.trip_join.proofs.Laws.{later, rising, insert-cases, join-valid, agree-other, same-self, same-trip}
+use Rattle.trip_join.specs.Join.{sameRest, agreeing, agree, insert, join}
+use Rattle.trip_join.proofs.Laws.{later, rising, insert-cases, join-valid, agree-other, same-trip}
 
 -- ---- a test of every member
 

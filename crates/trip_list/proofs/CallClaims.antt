@@ -22,12 +22,15 @@ use Rattle.memory.proofs.Cases.{split-eq, split-lt}
 use Rattle.text.specs.Decimal.{value, decimal, leadingZeros}
 use Rattle.text.proofs.Decimal.{value-decimal, decimal-no-zeros}
 use Rattle.trip_list.specs.declared.Trip as code
+use Rattle.trip_list.specs.declared.Step.{Step}
+use Rattle.trip_list.specs.declared.Step.the-variants as steps
 use Rattle.trip_list.specs.declared.Lookup.{Lookup}
 use Rattle.trip_list.specs.declared.Lookup.the-variants.{Found, None, Refused}
 use Rattle.trip_list.specs.Trip.{Trip, tripOf, spell, lineOf}
 use Rattle.trip_list.specs.List.{Parsed, trips, refusal, before, parseFrom, parse, tripsOf, answerOf, listAnswer, spelling, writeAnswer, written, validFrom, valid}
 use Rattle.trip_list.specs.Lines.{hasLine, firstTrip, lineLength, driverStart, lineStart}
 use Rattle.trip_list.specs.Lookup.{Located, located, Given, given, looked, readTrip, nextAnswer, nextTrip}
+use Rattle.trip_list.specs.Steps.{Told, told}
 use Rattle.trip_list.specs.Walk.{walkOf, onward, walk, wholeWalk, walkParsed}
 use Rattle.trip_list.specs.Entries.{Entry, linesOf, entriesFrom, entryTrip}
 use Rattle.trip_list.proofs.Lines.{Three, minuteOf, metresOf, driverOf, texts, line-has, line-trip, line-driver, line-length, line-rest}
@@ -616,3 +619,14 @@ looked-injective list (Refused r) (Refused q) e = ap back (coded-injective (answ
     back : Answer → Lookup
     back (answers.Done n) = None n
     back (answers.Refused x) = Refused x
+
+-- two steps that tell the same are one, so that a contract that gives `told r` gives r
+pub told-injective : (a b : Step) → told a ≡ told b → a ≡ b
+told-injective (steps.At l) (steps.At m) e = ap (λ (g : Told). steps.At (getD (g .line) 0 l)) e
+told-injective (steps.At l) (steps.Refused r) e = absurd (omega (arith, ap (λ (g : Told). length (g .line)) e))
+told-injective (steps.Refused r) (steps.At m) e = absurd (omega (arith, ap (λ (g : Told). length (g .line)) e))
+told-injective (steps.Refused r) (steps.Refused q) e = ap back (coded-injective (answers.Refused r) (answers.Refused q) (ap (λ (g : Told). g .answer) e))
+  where
+    back : Answer → Step
+    back (answers.Done n) = steps.Refused r
+    back (answers.Refused x) = steps.Refused x
