@@ -33,4 +33,7 @@ fi
 
 cd -- "$here/.."
 cargo build --offline --quiet --profile bench-run -p bench
+# Each block of a page or more begins at the same place of a page, on all sides alike: where two of them lie, modulo 4,096, makes a
+# difference to the time of a copy.
+export GLIBC_TUNABLES=glibc.malloc.mmap_threshold=4096
 "${CARGO_TARGET_DIR:-target}/bench-run/bench" "$@"
