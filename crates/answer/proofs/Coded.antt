@@ -2,14 +2,14 @@
 use mathlib.Core.Path.{_≡_, refl, sym, ap, _∙_}
 use mathlib.Core.Bool.{false, cond}
 use mathlib.Core.Logic.{_⊎_, inl, inr}
-use Prim.Native.Nat.{_<_}
+use Prim.Native.Nat.{ℕ, _<_}
 use native.Mathlib.Omega.{arith}
 use lib.Dec.{eqb}
 use Rattle.answer.specs.declared.Refusal.{Refusal}
 use Rattle.answer.specs.declared.Refusal.the-variants.{Line, Shape, Media, Books, Down, NoFile, Range, NoRoom, Cut, TripForm, TripOrder, TripConflict, TripsTooLong}
 use Rattle.answer.specs.declared.Answer.{Answer}
 use Rattle.answer.specs.declared.Answer.the-variants.{Done, Refused}
-use Rattle.answer.specs.Coded.{Coded, coded, codedRefusal}
+use Rattle.answer.specs.Coded.{Coded, coded, done, codedRefusal}
 
 -- no refusal has number 0
 pub refusal-number : (r : Refusal) → eqb ((codedRefusal r) .number) 0 ≡ false
@@ -26,6 +26,10 @@ refusal-number TripForm = refl
 refusal-number TripOrder = refl
 refusal-number TripConflict = refl
 refusal-number TripsTooLong = refl
+
+-- number 0 is done
+pub number-done : (a : Coded) → a .number ≡ 0 → a ≡ done (a .count)
+number-done a e = ap (λ (k : ℕ). record { number = k; count = a .count }) e
 
 -- an answer's number has one digit, or it has two and the count is 0
 pub number-small : (a : Answer) → (coded a .number < 10) ⊎ ((coded a .number < 100) × (coded a .count ≡ 0))

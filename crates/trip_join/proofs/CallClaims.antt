@@ -11,6 +11,7 @@ use lib.Seq.{take-at, drop-at}
 use borrow.Author.Tests.{eq-eqb, ne-eqb, le-leb, lt-leb}
 use borrow.Table.Steps.{cases}
 use Rattle.answer.specs.Coded.{Coded, done, SHAPE, RANGE, TRIP-FORM, TRIP-ORDER, TRIP-CONFLICT, TRIPS-TOO-LONG}
+use Rattle.answer.proofs.Coded.{number-done}
 use Rattle.memory.proofs.Bytes.{length-overwrite, overwrite-cut}
 use Rattle.memory.proofs.Cases.{split-eq, split-lt}
 use Rattle.scan.proofs.Scan.{true-not-false}
@@ -21,9 +22,6 @@ use Rattle.trip_list.proofs.CallClaims as lists
 use Rattle.trip_list.proofs.Claims.{parse-spell, spell-accepted, trips-valid, minutes-rise, never-longer, parsed-again, accepted-again}
 use Rattle.trip_join.specs.Join.{agree, joinedTrips, joinedText, joinAnswer, joined}
 use Rattle.trip_join.proofs.Claims.{Conflict, disagree, conflict-disagree, agree-commutes, agree-self, agree-none, none-agree, valid-once, IsJoin, is-join, only-join, join-commutes, join-self, join-none}
-
-done-of : (list : List ℕ) → listAnswer list .number ≡ 0 → listAnswer list ≡ done (listAnswer list .count)
-done-of list e = ap (λ (k : ℕ). record { number = k; count = listAnswer list .count }) e
 
 -- ---- the answer: six cases, in this order
 
@@ -268,7 +266,7 @@ module _ (x y buffer : List ℕ) (n : ℕ) (e : joinAnswer x y buffer ≡ done n
 pub long-none : (x y z : List ℕ) → 4096 < length (joinedText x y) → IsJoin (tripsIn x) (tripsIn y) (tripsIn z) → listAnswer z .number ≢ 0
 long-none x y z h j e =
     let q = ap (λ (ts : List Trip). length (spell ts)) (only-join (tripsIn x) (tripsIn y) (trips-valid x) (trips-valid y) (tripsIn z) j) in
-    absurd (omega (arith, q, never-longer z, accepted-short z (listAnswer z .count) (done-of z e)))
+    absurd (omega (arith, q, never-longer z, accepted-short z (listAnswer z .count) (number-done (listAnswer z) e)))
 
 -- ---- calls that give the same
 
@@ -279,7 +277,7 @@ unfolding joinAnswer joined
 trips-decide x y z w buffer ex ey ez ew q p = rw (eq-eqb _ _ ex, eq-eqb _ _ ey, eq-eqb _ _ ez, eq-eqb _ _ ew, q, p) (refl, refl)
 
 again : (list : List ℕ) → listAnswer list .number ≡ 0 → listAnswer (spelling list) .number ≡ 0
-again list e = ap (λ (c : Coded). c .number) (accepted-again list (listAnswer list .count) (done-of list e))
+again list e = ap (λ (c : Coded). c .number) (accepted-again list (listAnswer list .count) (number-done (listAnswer list) e))
 
 module _ (x y buffer : List ℕ) (ex : listAnswer x .number ≡ 0) (ey : listAnswer y .number ≡ 0) where
   -- so their spellings serve as well
@@ -308,7 +306,7 @@ empty-accepted = rw no-trips
 
 module _ (x buffer : List ℕ) where
   spelling-fits : listAnswer x .number ≡ 0 → length (spelling x) ≤ 4096
-  spelling-fits e = omega (arith, never-longer x, accepted-short x (listAnswer x .count) (done-of x e))
+  spelling-fits e = omega (arith, never-longer x, accepted-short x (listAnswer x .count) (number-done (listAnswer x) e))
 
   -- a list joined with itself
   pub joined-self : (joinAnswer x x buffer ≡ writeAnswer x buffer) × (joined x x buffer ≡ written x buffer)

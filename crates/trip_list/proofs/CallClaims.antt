@@ -15,7 +15,7 @@ use borrow.Table.Steps.{cases}
 use Rattle.answer.specs.declared.Answer.{Answer}
 use Rattle.answer.specs.declared.Answer.the-variants as answers
 use Rattle.answer.specs.Coded.{Coded, done, SHAPE, RANGE, TRIP-FORM, TRIP-ORDER}
-use Rattle.answer.proofs.Coded.{refusal-number, coded-injective}
+use Rattle.answer.proofs.Coded.{number-done, refusal-number, coded-injective}
 use Rattle.memory.specs.Bytes.{part}
 use Rattle.memory.proofs.Bytes.{overwrite-cut}
 use Rattle.memory.proofs.Cases.{split-eq, split-lt}
@@ -495,7 +495,7 @@ module _ (list buffer : List ℕ) where
     unfolding written
     written-cut =
         let o = done-only (ap (λ (c : Coded). c .number) e) in
-        let short = accepted-short list (listAnswer list .count) (ap (λ (k : ℕ). record { number = k; count = listAnswer list .count }) (o .1)) in
+        let short = accepted-short list (listAnswer list .count) (number-done (listAnswer list) (o .1)) in
         let fits : 0 + length (spelling list) ≤ length buffer = omega (arith, never-longer list, o .0) in
         rw e (overwrite-cut buffer 0 (spelling list) fits)
 

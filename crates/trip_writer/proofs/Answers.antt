@@ -10,6 +10,7 @@ use borrow.Author.Tests.{eq-eqb, ne-eqb, eqb-true, le-leb, lt-leb}
 use borrow.Table.Steps.{cases}
 use Rattle.answer.specs.Coded.{Coded, done, SHAPE, TRIP-CONFLICT, TRIPS-TOO-LONG}
 use Rattle.answer.specs.Admission.{isDone, ifDone}
+use Rattle.answer.proofs.Coded.{number-done}
 use Rattle.memory.specs.Bytes.{overwrite}
 use Rattle.scan.proofs.Scan.{is-false}
 use Rattle.trip_list.specs.Trip.{spell}
@@ -25,14 +26,11 @@ use Rattle.trip_writer.proofs.Joining.{walk-refused, Ended, ended}
 
 -- ---- accepted lists
 
-done-count : (a : Coded) → isDone a ≡ true → a ≡ done (a .count)
-done-count a e = ap (λ (k : ℕ). record { number = k; count = a .count }) (eqb-true (a .number) 0 e)
-
 short-done : (list : List ℕ) → isDone (listAnswer list) ≡ true → length list ≤ greatestList
-short-done list e = accepted-short list _ (done-count (listAnswer list) e)
+short-done list e = accepted-short list _ (number-done (listAnswer list) (eqb-true _ _ e))
 
 trips-done : (list : List ℕ) → isDone (listAnswer list) ≡ true → Trips (parse list)
-trips-done list e = accepted list _ (done-count (listAnswer list) e)
+trips-done list e = accepted list _ (number-done (listAnswer list) (eqb-true _ _ e))
 
 answer-trips : (p : Parsed) → Trips p → answerOf p ≡ done (length (tripsOf p))
 answer-trips p e = ap answerOf e

@@ -22,7 +22,7 @@ use Rattle.trip_list.specs.declared.Line as line
 use Rattle.trip_list.specs.declared.Step.{Step}
 use Rattle.trip_list.specs.declared.Step.the-variants.{At, Refused}
 use Rattle.trip_list.specs.Trip.{Trip, spellTrip, spell}
-use Rattle.trip_list.specs.List.{Parsed, trips, refusal, before, parse, tripsOf, greatestList, listAnswer, validFrom}
+use Rattle.trip_list.specs.List.{Parsed, trips, refusal, before, parse, tripsOf, tripsIn, greatestList, listAnswer, validFrom}
 use Rattle.trip_list.specs.Lines.{firstTrip, driverStart}
 use Rattle.trip_list.specs.Steps.{told, lineGiven}
 use Rattle.trip_list.specs.Scanner.{greatestLine, LineAt}
@@ -378,7 +378,7 @@ walk-whole list at h w over = w .whole (rw (from-end (w .least) (drop at list) (
 pub record Ended (x y xs : List ℕ) (s : stage.Stage) : Type 0 where
   pub first : Trips (parse x)
   pub second : Trips (parse y)
-  pub agrees : agree (tripsOf (parse x)) (tripsOf (parse y)) ≡ s .agree
+  pub agrees : agree (tripsIn x) (tripsIn y) ≡ s .agree
   pub ends : s .end ≡ length (joinedText x y)
   pub laid : s .end ≤ greatestList → take (s .end) xs ≡ joinedText x y
 

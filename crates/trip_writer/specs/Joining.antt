@@ -6,7 +6,7 @@ use Prim.Native.Nat.{ℕ, _+_, _*_, _≤_, _<_}
 use lib.ListN.{length, take, drop}
 use Rattle.trip_list.specs.declared.Line as line
 use Rattle.trip_list.specs.Trip.{Trip, spell}
-use Rattle.trip_list.specs.List.{Parsed, trips, parse, parseFrom, tripsOf, greatestList}
+use Rattle.trip_list.specs.List.{Parsed, trips, parse, parseFrom, tripsOf, tripsIn, greatestList}
 use Rattle.trip_list.specs.Scanner.{greatestLine, LineAt}
 use Rattle.trip_join.specs.Join.{agree, join, joinedTrips}
 use Rattle.trip_writer.specs.declared.Place as place
@@ -44,10 +44,11 @@ pub record HeadAt (list : List ℕ) (at : ℕ) (h : line.Line) : Type 0 where
 pub record Joined (x y xs : List ℕ) (s : stage.Stage) (ts us : List Trip) : Type 0 where
   pub passed : List Trip
   pub joins : joinedTrips x y ≡ passed ++ join ts us
-  pub agrees : agree (tripsOf (parse x)) (tripsOf (parse y)) ≡ s .agree && agree ts us
+  pub agrees : agree (tripsIn x) (tripsIn y) ≡ s .agree && agree ts us
   pub ends : s .end ≡ length (spell passed)
   pub laid : s .end ≤ greatestList → take (s .end) xs ≡ spell passed
 
+-- how far both walks are, and what is joined of lists that are accepted
 pub record Joining (x y xs : List ℕ) (s : stage.Stage) : Type 0 where
   pub first : HeadAt x (s .i) (s .a)
   pub second : HeadAt y (s .j) (s .b)
