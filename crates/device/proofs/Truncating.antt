@@ -1,5 +1,5 @@
 -- What a truncate does to the current bytes and the sizes.
-use mathlib.Core.Path.{_≡_, refl, _∙_}
+use mathlib.Core.Path.{_≡_, refl, sym, _∙_}
 use mathlib.Core.Logic.{_≢_}
 use mathlib.Core.Bool.{Bool, true, false, _&&_}
 use mathlib.Core.List.{List, [], map}
@@ -17,6 +17,7 @@ use Rattle.answer.specs.declared.Refusal.{Refusal}
 use Rattle.memory.specs.Bytes.{zeros, overwrite}
 use Rattle.memory.proofs.Cases.{split-lt, split-eq}
 use Rattle.memory.proofs.Bytes.{getD-zeros, length-overwrite, overwrite-before, overwrite-in}
+use Rattle.scan.proofs.Scan.{and-true}
 use Rattle.media.specs.Geometry.{files, pageBytes, fileBytes}
 use Rattle.device.specs.Device.{Device, slotCount, framesBytes, frameStart, freeSlot, slotOf, isCached, freeWhere, logicalAt, floorAt, deviceOf, withSlots}
 use Rattle.device.specs.Current.{frameByte, currentAt}
@@ -109,13 +110,9 @@ module _ (P : ℕ) (d : Device) (x : Fit P d) (frames : length (d .frames) ≡ f
   pub truncated-cached : (q : ℕ) → isCached (truncated f n d) f q ≡ isCached d f q && ltb (pageBytes * q) n
   truncated-cached q =
       split-lt (pageBytes * q) n
-      (λ l. rw (slot-kept f q (λ _. l), lt-ltb _ _ l) (and-true (isCached d f q)))
+      (λ l. rw (slot-kept f q (λ _. l), lt-ltb _ _ l) (sym (and-true (isCached d f q))))
       (λ l. rw (slot-freed q l, le-ltb _ _ l) (and-false (isCached d f q)))
     where
-      and-true : (b : Bool) → b ≡ b && true
-      and-true true = refl
-      and-true false = refl
-
       and-false : (b : Bool) → false ≡ b && false
       and-false true = refl
       and-false false = refl

@@ -1,7 +1,8 @@
 -- Laws of tests over a list.
 use mathlib.Core.Path.{_≡_, refl, sym, ap, _∙_}
 use mathlib.Core.Bool.{Bool, true, false, not, _&&_, _||_, false≢true}
-use mathlib.Core.List.{List, [], _∷_, _++_, map}
+use mathlib.Core.Logic.{⊎-elim}
+use mathlib.Core.List.{List, [], _∷_, _++_, map, List·Memᴰ, List·Memᴰ·head, List·Memᴰ·tail, List·Memᴰ·cases-cons, List·Memᴰ·not-nil}
 use Prim.Native.Nat.{ℕ, zero, suc, _<_, _≤_, suc-le-suc}
 use native.Mathlib.Nat.{not-suc-le-zero, le-of-suc-le-suc}
 use native.Mathlib.Omega.{arith}
@@ -22,6 +23,10 @@ and-right false b e = absurd (false≢true e)
 
 pub and-both : (a b : Bool) → a ≡ true → b ≡ true → a && b ≡ true
 and-both a b e d = rw (e, d)
+
+pub and-true : (a : Bool) → a && true ≡ a
+and-true true = refl
+and-true false = refl
 
 pub and-assoc : (a b c : Bool) → a && (b && c) ≡ (a && b) && c
 and-assoc true b c = refl
@@ -83,6 +88,20 @@ module _ {A : Type 0} (t : A → Bool) where
   pub every-impl : (u : A → Bool) → ((x : A) → t x ≡ true → u x ≡ true) → (xs : List A) → every t xs ≡ true → every u xs ≡ true
   every-impl u h [] e = refl
   every-impl u h (x ∷ xs) e = and-both (u x) (every u xs) (h x (and-left (t x) (every t xs) e)) (every-impl u h xs (and-right (t x) (every t xs) e))
+
+  -- ---- members
+
+  pub every-member : (xs : List A) (x : A) → every t xs ≡ true → List·Memᴰ x xs → t x ≡ true
+  every-member [] x e m = absurd (List·Memᴰ·not-nil m)
+  every-member (y ∷ ys) x e m =
+      ⊎-elim (λ q. ap t q ∙ and-left (t y) (every t ys) e) (λ k. every-member ys x (and-right (t y) (every t ys) e) k) (List·Memᴰ·cases-cons m)
+
+  pub member-fails : (xs : List A) → every t xs ≡ false → (x : A) × List·Memᴰ x xs × (t x ≡ false)
+  member-fails [] e = absurd (false≢true (sym e))
+  member-fails (y ∷ ys) e =
+      cases (t y)
+      (λ p. let r = member-fails ys (rw p at e) in (r .0, List·Memᴰ·tail (r .1), r .2))
+      (λ p. (y, List·Memᴰ·head refl, p))
 
   -- ---- the first that passes
 

@@ -13,7 +13,7 @@ use lib.Seq.{drop-cons}
 use borrow.Author.Tests.{eqb-true, eqb-false, eq-eqb, ne-eqb, leb-true, le-leb, lt-leb, lt-ltb, le-ltb, ltb-true, ltb-false}
 use borrow.Table.Steps.{cases}
 use Rattle.scan.specs.Scan.{every}
-use Rattle.scan.proofs.Scan.{and-left, and-right, allOf-at, every-at, every-join}
+use Rattle.scan.proofs.Scan.{and-left, and-right, and-true, allOf-at, every-at, every-join}
 use Rattle.text.specs.Decimal.{isDigit, isZero, valueFrom, value, isNumeral, digitsIn, digitsBound, decimal, leadingZeros}
 
 -- ---- digits
@@ -92,11 +92,7 @@ module _ (most limit : ℕ) (text : List ℕ) where
 
       pub by-value : every isDigit text ≡ true → isNumeral most limit text ≡ leb (value text) limit
       unfolding isNumeral
-      by-value e = rw (le-leb 1 (length text) h, le-leb (length text) most k, e) (alone (leb (value text) limit))
-        where
-          alone : (b : Bool) → b && true ≡ b
-          alone true = refl
-          alone false = refl
+      by-value e = rw (le-leb 1 (length text) h, le-leb (length text) most k, e) (and-true (leb (value text) limit))
 
 pub record Numeral (most limit : ℕ) (text : List ℕ) : Type 0 where
   pub some : 1 ≤ length text

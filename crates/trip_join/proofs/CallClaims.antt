@@ -96,22 +96,43 @@ every-join x y buffer =
     (λ a. first h a))
     (λ h. shape h)
 
--- the count is at most 4,096
-pub join-count : (x y buffer : List ℕ) → joinAnswer x y buffer .count ≤ 4096
-join-count x y buffer = go (every-join x y buffer)
-  where
-    go : Case x y buffer → joinAnswer x y buffer .count ≤ 4096
-    go (shape h) = rw (shape-refused x y buffer h) (omega arith)
-    go (first h a) = rw (first-refused x y buffer h a) (list-count x)
-    go (second h a b) = rw (second-refused x y buffer h a b) (list-count y)
-    go (conflict r c) = rw (conflict-refused x y buffer r c) (omega arith)
-    go (long r free h) = rw (long-refused x y buffer r free h) (omega arith)
-    go (fits r free h) = rw (join-done x y buffer r free h) h
+module _ (x y buffer : List ℕ) where
+  abbrev caseAnswer : Case x y buffer → Coded
+  caseAnswer (shape h) = SHAPE
+  caseAnswer (first h a) = listAnswer x
+  caseAnswer (second h a b) = listAnswer y
+  caseAnswer (conflict r c) = TRIP-CONFLICT
+  caseAnswer (long r free h) = TRIPS-TOO-LONG
+  caseAnswer (fits r free h) = done (length (joinedText x y))
+
+  case-told : (c : Case x y buffer) → joinAnswer x y buffer ≡ caseAnswer c
+  case-told (shape h) = shape-refused x y buffer h
+  case-told (first h a) = first-refused x y buffer h a
+  case-told (second h a b) = second-refused x y buffer h a b
+  case-told (conflict r c) = conflict-refused x y buffer r c
+  case-told (long r free h) = long-refused x y buffer r free h
+  case-told (fits r free h) = join-done x y buffer r free h
+
+  -- what the number of an answer shows of every case shows it of the call
+  by-number : {A : Type 0} (b : Coded) → joinAnswer x y buffer ≡ b → ((c : Case x y buffer) → caseAnswer c ≡ b → A) → A
+  by-number b e f = let c = every-join x y buffer in f c (sym (case-told c) ∙ e)
+
+  -- the count is at most 4,096
+  pub join-count : joinAnswer x y buffer .count ≤ 4096
+  join-count = let c = every-join x y buffer in rw (case-told c) (go c)
+    where
+      go : (c : Case x y buffer) → caseAnswer c .count ≤ 4096
+      go (shape h) = omega arith
+      go (first h a) = list-count x
+      go (second h a b) = list-count y
+      go (conflict r c) = omega arith
+      go (long r free h) = omega arith
+      go (fits r free h) = h
 
 -- ---- what an answer shows
 
-number-of : (x y buffer : List ℕ) (a b : Coded) → joinAnswer x y buffer ≡ a → joinAnswer x y buffer ≡ b → a .number ≡ b .number
-number-of x y buffer a b p q = ap (λ (c : Coded). c .number) (sym p ∙ q)
+number : (a b : Coded) → a ≡ b → a .number ≡ b .number
+number a b q = ap (λ (c : Coded). c .number) q
 
 list-number : (list : List ℕ) → listAnswer list .number ≤ 11
 list-number list =
@@ -123,7 +144,7 @@ list-number list =
     (lists.every-list list))
   where
     at : (a : Coded) → listAnswer list ≡ a → a .number ≤ 11 → listAnswer list .number ≤ 11
-    at a q h = omega (arith, h, ap (λ (c : Coded). c .number) q)
+    at a q h = omega (arith, h, number (listAnswer list) a q)
 
 -- done is given in the last case only
 pub record DoneJoin (x y buffer : List ℕ) (n : ℕ) : Type 0 where
@@ -132,51 +153,43 @@ pub record DoneJoin (x y buffer : List ℕ) (n : ℕ) : Type 0 where
   pub count : n ≡ length (joinedText x y)
   pub short : n ≤ 4096
 
-pub done-only : (x y buffer : List ℕ) (n : ℕ) → joinAnswer x y buffer ≡ done n → DoneJoin x y buffer n
-done-only x y buffer n e = go (every-join x y buffer)
-  where
-    number : (a : Coded) → joinAnswer x y buffer ≡ a → a .number ≡ 0
-    number a q = number-of x y buffer a (done n) q e
+module _ (x y buffer : List ℕ) where
+  pub done-only : (n : ℕ) → joinAnswer x y buffer ≡ done n → DoneJoin x y buffer n
+  done-only n e = by-number x y buffer (done n) e go
+    where
+      go : (c : Case x y buffer) → caseAnswer x y buffer c ≡ done n → DoneJoin x y buffer n
+      go (shape h) q = absurd (omega (arith, number _ _ q))
+      go (first h a) q = absurd (a (number _ _ q))
+      go (second h a b) q = absurd (b (number _ _ q))
+      go (conflict r c) q = absurd (omega (arith, number _ _ q))
+      go (long r free h) q = absurd (omega (arith, number _ _ q))
+      go (fits r free h) q =
+          let z : n ≡ length (joinedText x y) = ap (λ (c : Coded). c .count) (sym q) in
+          record { ready = r; free = free; count = z; short = omega arith }
 
-    go : Case x y buffer → DoneJoin x y buffer n
-    go (shape h) = absurd (omega (arith, number SHAPE (shape-refused x y buffer h)))
-    go (first h a) = absurd (a (number (listAnswer x) (first-refused x y buffer h a)))
-    go (second h a b) = absurd (b (number (listAnswer y) (second-refused x y buffer h a b)))
-    go (conflict r c) = absurd (omega (arith, number TRIP-CONFLICT (conflict-refused x y buffer r c)))
-    go (long r free h) = absurd (omega (arith, number TRIPS-TOO-LONG (long-refused x y buffer r free h)))
-    go (fits r free h) =
-        let q : n ≡ length (joinedText x y) = ap (λ (c : Coded). c .count) (sym e ∙ join-done x y buffer r free h) in
-        record { ready = r; free = free; count = q; short = omega arith }
+  -- 17 is given for a conflict of accepted lists only
+  pub conflict-only : joinAnswer x y buffer ≡ TRIP-CONFLICT → Ready x y buffer × Conflict (tripsIn x) (tripsIn y)
+  conflict-only e = by-number x y buffer TRIP-CONFLICT e go
+    where
+      go : (c : Case x y buffer) → caseAnswer x y buffer c ≡ TRIP-CONFLICT → Ready x y buffer × Conflict (tripsIn x) (tripsIn y)
+      go (shape h) q = absurd (omega (arith, number _ _ q))
+      go (first h a) q = absurd (omega (arith, list-number x, number _ _ q))
+      go (second h a b) q = absurd (omega (arith, list-number y, number _ _ q))
+      go (conflict r c) q = (r, c)
+      go (long r free h) q = absurd (omega (arith, number _ _ q))
+      go (fits r free h) q = absurd (omega (arith, number _ _ q))
 
--- 17 is given for a conflict of accepted lists only
-pub conflict-only : (x y buffer : List ℕ) → joinAnswer x y buffer ≡ TRIP-CONFLICT → Ready x y buffer × Conflict (tripsIn x) (tripsIn y)
-conflict-only x y buffer e = go (every-join x y buffer)
-  where
-    number : (a : Coded) → joinAnswer x y buffer ≡ a → a .number ≡ 17
-    number a q = number-of x y buffer a TRIP-CONFLICT q e
-
-    go : Case x y buffer → Ready x y buffer × Conflict (tripsIn x) (tripsIn y)
-    go (shape h) = absurd (omega (arith, number SHAPE (shape-refused x y buffer h)))
-    go (first h a) = absurd (omega (arith, list-number x, number (listAnswer x) (first-refused x y buffer h a)))
-    go (second h a b) = absurd (omega (arith, list-number y, number (listAnswer y) (second-refused x y buffer h a b)))
-    go (conflict r c) = (r, c)
-    go (long r free h) = absurd (omega (arith, number TRIPS-TOO-LONG (long-refused x y buffer r free h)))
-    go (fits r free h) = absurd (omega (arith, number (done (length (joinedText x y))) (join-done x y buffer r free h)))
-
--- 18 is given for a text of more than 4,096 bytes, of accepted lists without a conflict, only
-pub long-only : (x y buffer : List ℕ) → joinAnswer x y buffer ≡ TRIPS-TOO-LONG → Ready x y buffer × NoConflict x y × (4096 < length (joinedText x y))
-long-only x y buffer e = go (every-join x y buffer)
-  where
-    number : (a : Coded) → joinAnswer x y buffer ≡ a → a .number ≡ 18
-    number a q = number-of x y buffer a TRIPS-TOO-LONG q e
-
-    go : Case x y buffer → Ready x y buffer × NoConflict x y × (4096 < length (joinedText x y))
-    go (shape h) = absurd (omega (arith, number SHAPE (shape-refused x y buffer h)))
-    go (first h a) = absurd (omega (arith, list-number x, number (listAnswer x) (first-refused x y buffer h a)))
-    go (second h a b) = absurd (omega (arith, list-number y, number (listAnswer y) (second-refused x y buffer h a b)))
-    go (conflict r c) = absurd (omega (arith, number TRIP-CONFLICT (conflict-refused x y buffer r c)))
-    go (long r free h) = (r, free, h)
-    go (fits r free h) = absurd (omega (arith, number (done (length (joinedText x y))) (join-done x y buffer r free h)))
+  -- 18 is given for a text of more than 4,096 bytes, of accepted lists without a conflict, only
+  pub long-only : joinAnswer x y buffer ≡ TRIPS-TOO-LONG → Ready x y buffer × NoConflict x y × (4096 < length (joinedText x y))
+  long-only e = by-number x y buffer TRIPS-TOO-LONG e go
+    where
+      go : (c : Case x y buffer) → caseAnswer x y buffer c ≡ TRIPS-TOO-LONG → Ready x y buffer × NoConflict x y × (4096 < length (joinedText x y))
+      go (shape h) q = absurd (omega (arith, number _ _ q))
+      go (first h a) q = absurd (omega (arith, list-number x, number _ _ q))
+      go (second h a b) q = absurd (omega (arith, list-number y, number _ _ q))
+      go (conflict r c) q = absurd (omega (arith, number _ _ q))
+      go (long r free h) q = (r, free, h)
+      go (fits r free h) q = absurd (omega (arith, number _ _ q))
 
 -- ---- the buffer
 

@@ -1,7 +1,7 @@
 -- What holds of joined lists of trips: each trip of either is in the result, no others are, in minute order.
 use mathlib.Core.Path.{_≡_, refl, sym, ap, _∙_}
 use mathlib.Core.Logic.{_≢_, _⊎_, inl, inr, ⊎-elim}
-use mathlib.Core.Bool.{Bool, true, false, false≢true}
+use mathlib.Core.Bool.{true, false}
 use mathlib.Core.List.{List, [], _∷_, List·Memᴰ, List·Memᴰ·head, List·Memᴰ·tail, List·Memᴰ·cases-cons, List·Memᴰ·not-nil, Memᴰ·cast}
 use Prim.Native.Nat.{ℕ, _+_, _≤_, _<_}
 use native.Mathlib.Omega.{arith}
@@ -11,28 +11,13 @@ use borrow.Author.Tests.{eq-eqb, eqb-false}
 use borrow.Table.Steps.{cases}
 use Rattle.memory.proofs.Cases.{split-eq, split-lt}
 use Rattle.scan.specs.Scan.{every, sameBytes}
-use Rattle.scan.proofs.Scan.{and-left, and-right, is-false, true-not-false}
+use Rattle.scan.proofs.Scan.{is-false, true-not-false, every-member, member-fails}
 use Rattle.scan.proofs.Same.{same-self}
 use Rattle.trip_list.specs.Trip.{Trip}
 use Rattle.trip_list.specs.List.{validFrom, valid}
 use Rattle.trip_list.proofs.Claims.{minutes-rise}
 use Rattle.trip_join.specs.Join.{sameRest, agreeing, agree, insert, join}
 use Rattle.trip_join.proofs.Laws.{later, rising, insert-cases, join-valid, agree-other, same-trip}
-
--- ---- a test of every member
-
-module _ {A : Type 0} (t : A → Bool) where
-  every-member : (xs : List A) (x : A) → every t xs ≡ true → List·Memᴰ x xs → t x ≡ true
-  every-member [] x e m = absurd (List·Memᴰ·not-nil m)
-  every-member (y ∷ ys) x e m =
-      ⊎-elim (λ q. ap t q ∙ and-left (t y) (every t ys) e) (λ k. every-member ys x (and-right (t y) (every t ys) e) k) (List·Memᴰ·cases-cons m)
-
-  member-fails : (xs : List A) → every t xs ≡ false → (x : A) × List·Memᴰ x xs × (t x ≡ false)
-  member-fails [] e = absurd (false≢true (sym e))
-  member-fails (y ∷ ys) e =
-      cases (t y)
-      (λ p. let r = member-fails ys (rw p at e) in (r .0, List·Memᴰ·tail (r .1), r .2))
-      (λ p. (y, List·Memᴰ·head refl, p))
 
 -- ---- the trips of a valid list
 

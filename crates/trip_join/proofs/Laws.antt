@@ -1,7 +1,7 @@
 -- Laws of the join, one trip after another.
 use mathlib.Core.Path.{_≡_, refl, ap, _∙_}
 use mathlib.Core.Logic.{_≢_}
-use mathlib.Core.Bool.{Bool, true, false, _&&_}
+use mathlib.Core.Bool.{true, _&&_}
 use mathlib.Core.List.{List, [], _∷_}
 use Prim.Native.Nat.{ℕ, _+_, _≤_, _<_}
 use native.Mathlib.Omega.{arith}
@@ -9,7 +9,7 @@ use lib.Dec.{eqb, leb}
 use borrow.Author.Tests.{eq-eqb, ne-eqb, eqb-true, lt-ltb, le-ltb, le-leb}
 use Rattle.memory.proofs.Cases.{split-eq, split-lt}
 use Rattle.scan.specs.Scan.{every, sameBytes}
-use Rattle.scan.proofs.Scan.{and-left, and-right, and-both}
+use Rattle.scan.proofs.Scan.{and-left, and-right, and-both, and-true}
 use Rattle.scan.proofs.Same.{same-eq}
 use Rattle.trip_list.specs.Trip.{Trip, trip, inLimits}
 use Rattle.trip_list.specs.List.{validFrom}
@@ -127,11 +127,7 @@ unfolding agree agreeing
 agree-both a b xs ys q e f =
     let x = agree-later a (a .minute + 1) ys (omega arith) f in
     let y = agree-second b xs ys (rw q at e) in
-    rw (eq-eqb _ _ q, x, y) (alone (sameRest a b) (agree xs ys))
-  where
-    alone : (x y : Bool) → (x && true) && y ≡ x && y
-    alone true y = refl
-    alone false y = refl
+    rw (eq-eqb _ _ q, x, y, and-true (sameRest a b))
 
 -- two trips of one minute with the same rest are one
 pub same-trip : (a b : Trip) → a .minute ≡ b .minute → sameRest a b ≡ true → a ≡ b

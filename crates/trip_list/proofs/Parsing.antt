@@ -18,7 +18,7 @@ use Rattle.scan.proofs.Scan.{and-left, and-right, first-le}
 use Rattle.text.specs.Marks.{LF, isMark, parts}
 use Rattle.text.proofs.Marks.{parts-split}
 use Rattle.trip_list.specs.Trip.{Trip, hasForm, tripOf}
-use Rattle.trip_list.specs.List.{Parsed, trips, refusal, before, parseLines, parseFrom, parse, tripsOf, greatestList, answerOf, listAnswer}
+use Rattle.trip_list.specs.List.{Parsed, trips, refusal, before, parseLines, parseFrom, parse, tripsOf, Trips, greatestList, answerOf, listAnswer}
 use Rattle.trip_list.specs.Lines.{firstLine, hasLine, firstTrip, lineLength}
 
 -- ---- the first line
@@ -90,7 +90,7 @@ module _ (least : ℕ) where
 -- ---- accepted lists
 
 abbrev pub Accepted : List ℕ → Type 0
-Accepted list = parse list ≡ trips (tripsOf (parse list))
+Accepted list = Trips (parse list)
 
 -- 1 for trips, 0 for a refusal
 kind : Parsed → ℕ
@@ -183,7 +183,7 @@ honest-list : (list : List ℕ) → honest (parse list) ≡ true
 unfolding parse parseFrom
 honest-list list = honest-lines 0 (parts LF list)
 
-accepted-of : (p : Parsed) (n : ℕ) → honest p ≡ true → answerOf p ≡ done n → p ≡ trips (tripsOf p)
+accepted-of : (p : Parsed) (n : ℕ) → honest p ≡ true → answerOf p ≡ done n → Trips p
 unfolding honest
 accepted-of (trips ts) n h e = refl
 accepted-of (refusal a) n h e = absurd (false≢true (rw e at h))
@@ -200,7 +200,7 @@ unfolding honest
 counted-few (trips ts) n h few = few ts refl
 counted-few (refusal a) n h few = omega (arith, eqb-true (a .count) 0 (and-right (ltb 0 (a .number)) (eqb (a .count) 0) h))
 
-pub accepted-count : (p : Parsed) (n : ℕ) → p ≡ trips (tripsOf p) → answerOf p ≡ done n → length (tripsOf p) ≡ n
+pub accepted-count : (p : Parsed) (n : ℕ) → Trips p → answerOf p ≡ done n → length (tripsOf p) ≡ n
 accepted-count (trips ts) n a e = ap (λ (c : Coded). c .count) e
 accepted-count (refusal b) n a e = not-both (refusal b) [] b a refl
 

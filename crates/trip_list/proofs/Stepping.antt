@@ -1,14 +1,14 @@
 -- A line at an index of a list: what the code is told of it.
 use mathlib.Core.Path.{_≡_, refl, sym, ap, _∙_}
 use mathlib.Core.Bool.{true, false}
-use mathlib.Core.List.{List, [], _∷_}
+use mathlib.Core.List.{List}
 use Prim.Native.Nat.{ℕ, _+_, _≤_, _<_}
 use native.Mathlib.Omega.{arith}
 use lib.Dec.{leb}
 use lib.ListN.{length, getD, drop, length-drop, drop-of-length-le}
 use borrow.Author.Tests.{le-leb, lt-leb, leb-true, leb-false}
 use borrow.Table.Steps.{cases}
-use Rattle.answer.specs.Coded.{Coded, done, codedRefusal, TRIP-FORM, TRIP-ORDER}
+use Rattle.answer.specs.Coded.{codedRefusal}
 use Rattle.answer.specs.declared.Refusal.{Refusal}
 use Rattle.answer.specs.declared.Refusal.the-variants.{TripForm, TripOrder}
 use Rattle.trip_list.specs.declared.Line as line
@@ -16,7 +16,7 @@ use Rattle.trip_list.specs.declared.Step.{Step}
 use Rattle.trip_list.specs.declared.Step.the-variants.{At, Refused}
 use Rattle.trip_list.specs.Trip.{greatestNumber, tripOf}
 use Rattle.trip_list.specs.Lines.{firstLine, hasLine, firstTrip, lineLength, driverStart}
-use Rattle.trip_list.specs.Steps.{Told, tell, told, lineOfFront, lineGiven}
+use Rattle.trip_list.specs.Steps.{Told, told, lineOfFront, lineGiven}
 use Rattle.trip_list.specs.Scanner.{LineFields, LineRead, greatestLine, LineAt, Stopped, tripAt}
 use Rattle.trip_list.proofs.Lines.{number-small, minuteOf, metresOf, driverOf, texts, line-driver}
 use Rattle.trip_list.proofs.Parsing.{line-some, line-within, from-malformed, from-falling}
@@ -24,61 +24,61 @@ use Rattle.trip_list.proofs.Spelling.{parts-length, line-short}
 
 -- ---- the line that was found
 
--- to the code: each case of the line in front
-module _ (list : List ℕ) (at least : ℕ) (u : List ℕ) (w : u ≡ drop at list) (l : line.Line) (r : LineRead u l) where
-  here : LineRead (drop at list) l
-  here = rw w at r
-
-  pub given-none : l .fits ≡ false → told (Refused TripForm) ≡ lineGiven list at least
-  unfolding lineGiven
-  given-none e = rw (sym (here .told) ∙ e)
-
-  module _ (e : l .fits ≡ true) where
-    form : hasLine (drop at list) ≡ true
-    form = sym (here .told) ∙ e
-
-    pub given-low : l .minute < least → told (Refused TripOrder) ≡ lineGiven list at least
-    unfolding lineGiven
-    given-low h =
-        let below : firstTrip (drop at list) .minute < least = omega (arith, here .read e .minute) in
-        rw (form, lt-leb _ _ below)
-
-    pub given-line : least ≤ l .minute → told (At l) ≡ lineGiven list at least
-    unfolding lineGiven lineOfFront
-    given-line h =
-        let f = here .read e in
-        let up : least ≤ firstTrip (drop at list) .minute = omega (arith, f .minute) in
-        rw (form, le-leb _ _ up, ← (f .minute), ← (f .metres), ← (f .second), ← (f .driver), ← (f .letters), ← (f .size), ← e)
-
--- no line starts past the end
-pub given-past : (list : List ℕ) (at least : ℕ) → length list < at → told (Refused TripForm) ≡ lineGiven list at least
-unfolding lineGiven hasLine firstLine
-given-past list at least h = let over : length list ≤ at = omega arith in rw (drop-of-length-le list over)
-
--- from the code: what each case says
 module _ (list : List ℕ) (at least : ℕ) where
   abbrev t : List ℕ
   t = drop at list
 
-  is-line : hasLine t ≡ true → leb least (firstTrip t .minute) ≡ true → lineGiven list at least ≡ tell (done (lineLength t)) (lineOfFront t ∷ [])
-  unfolding lineGiven
+  is-line : hasLine t ≡ true → leb least (firstTrip t .minute) ≡ true → lineGiven list at least ≡ told (At (lineOfFront t))
+  unfolding lineGiven lineOfFront
   is-line f h = rw (f, h)
 
-  is-low : hasLine t ≡ true → leb least (firstTrip t .minute) ≡ false → lineGiven list at least ≡ tell TRIP-ORDER []
+  is-low : hasLine t ≡ true → leb least (firstTrip t .minute) ≡ false → lineGiven list at least ≡ told (Refused TripOrder)
   unfolding lineGiven
   is-low f h = rw (f, h)
 
-  is-none : hasLine t ≡ false → lineGiven list at least ≡ tell TRIP-FORM []
+  is-none : hasLine t ≡ false → lineGiven list at least ≡ told (Refused TripForm)
   unfolding lineGiven
   is-none f = rw f
 
+  -- no line starts past the end
+  pub given-past : length list < at → told (Refused TripForm) ≡ lineGiven list at least
+  unfolding hasLine firstLine
+  given-past h = let over : length list ≤ at = omega arith in sym (is-none (rw (drop-of-length-le list over)))
+
+  -- to the code: each case of the line in front
+  module _ (u : List ℕ) (w : u ≡ drop at list) (l : line.Line) (r : LineRead u l) where
+    here : LineRead t l
+    here = rw w at r
+
+    pub given-none : l .fits ≡ false → told (Refused TripForm) ≡ lineGiven list at least
+    given-none e = sym (is-none (sym (here .told) ∙ e))
+
+    module _ (e : l .fits ≡ true) where
+      form : hasLine t ≡ true
+      form = sym (here .told) ∙ e
+
+      pub given-low : l .minute < least → told (Refused TripOrder) ≡ lineGiven list at least
+      given-low h =
+          let below : firstTrip t .minute < least = omega (arith, here .read e .minute) in
+          sym (is-low form (lt-leb _ _ below))
+
+      front-is : l ≡ lineOfFront t
+      unfolding lineOfFront
+      front-is = let f = here .read e in rw (← (f .minute), ← (f .metres), ← (f .second), ← (f .driver), ← (f .letters), ← (f .size), ← e)
+
+      pub given-line : least ≤ l .minute → told (At l) ≡ lineGiven list at least
+      given-line h =
+          let up : least ≤ firstTrip t .minute = omega (arith, here .read e .minute) in
+          ap (λ (m : line.Line). told (At m)) front-is ∙ sym (is-line form (le-leb _ _ up))
+
+  -- from the code: what each case says
   front-read : LineFields t (lineOfFront t)
   unfolding lineOfFront
   front-read = record { minute = refl; metres = refl; second = refl; driver = refl; letters = refl; size = refl }
 
   -- one line is not none
-  line-none : {A : Type 0} (a b : Coded) (l : line.Line) → tell a (l ∷ []) ≡ tell b [] → A
-  line-none a b l e = let z : _≡_ {A = ℕ} 1 0 = ap (λ (g : Told). length (g .line)) e in absurd (omega arith)
+  line-none : {A : Type 0} (l : line.Line) (x : Refusal) → told (At l) ≡ told (Refused x) → A
+  line-none l x e = let z : _≡_ {A = ℕ} 1 0 = ap (λ (g : Told). length (g .line)) e in absurd (omega arith)
 
   module _ (r : Step) (e : told r ≡ lineGiven list at least) where
     pub step-line : (l : line.Line) → r ≡ At l → LineAt list at l × (least ≤ l .minute)
@@ -90,8 +90,8 @@ module _ (list : List ℕ) (at least : ℕ) where
         let same : l ≡ lineOfFront t = ap (λ (o : Told). getD (o .line) 0 l) (g ∙ is-line f h) in
         let fields : LineFields t l = rw same front-read in
         (record { form = f; read = fields }, omega (arith, leb-true least (firstTrip t .minute) h, fields .minute)))
-        (λ h. line-none _ _ l (g ∙ is-low f h)))
-        (λ f. line-none _ _ l (g ∙ is-none f))
+        (λ h. line-none l TripOrder (g ∙ is-low f h)))
+        (λ f. line-none l TripForm (g ∙ is-none f))
 
     pub step-refused : at < length list → (x : Refusal) → r ≡ Refused x → Stopped least t (codedRefusal x)
     step-refused inside x q =
@@ -99,7 +99,7 @@ module _ (list : List ℕ) (at least : ℕ) where
         let some : 0 < length t = omega (arith, length-drop at list) in
         cases (hasLine t)
         (λ f. cases (leb least (firstTrip t .minute))
-        (λ h. line-none _ _ (lineOfFront t) (sym (g ∙ is-line f h)))
+        (λ h. line-none (lineOfFront t) x (sym (g ∙ is-line f h)))
         (λ h. rw (ap (λ (y : Told). y .answer) (g ∙ is-low f h)) (record { told = λ o. rw (f, h); parsed = from-falling least t some f (leb-false _ _ h) })))
         (λ f. rw (ap (λ (y : Told). y .answer) (g ∙ is-none f)) (record { told = λ o. rw f; parsed = from-malformed least t some f }))
 

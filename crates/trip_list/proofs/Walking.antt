@@ -167,13 +167,15 @@ driver-part s form =
     ap (λ (i : ℕ). drop i s) at ∙ sym (drop-drop (length k + 1) (length m + 1) s) ∙ ap (drop (length k + 1)) one ∙ drop-append-add k _ 1 in
     ap (take (length d)) two ∙ take-at d (LF ∷ r) (length d) refl
 
+pub driver-at : (list : List ℕ) (at : ℕ) → hasLine (drop at list) ≡ true
+    → part list (at + driverStart (drop at list)) (length (firstTrip (drop at list) .driver)) ≡ firstTrip (drop at list) .driver
+driver-at list at form =
+    let s = drop at list in
+    ap (take (length (firstTrip s .driver))) (sym (drop-drop (driverStart s) at list)) ∙ driver-part s form
+
 pub located-at : (list : List ℕ) (at : ℕ) → hasLine (drop at list) ≡ true → inList list (tripAt list at) ≡ located (firstTrip (drop at list)) (at + driverStart (drop at list))
 unfolding tripAt
-located-at list at form =
-    let s = drop at list in
-    let d : part list (at + driverStart s) (length (firstTrip s .driver)) ≡ firstTrip s .driver =
-    ap (take (length (firstTrip s .driver))) (sym (drop-drop (driverStart s) at list)) ∙ driver-part s form in
-    rw d
+located-at list at form = rw (driver-at list at form)
 
 -- ---- what the reader gives
 

@@ -1,4 +1,5 @@
 -- A list of trips: document 02, §1.
+use mathlib.Core.Path.{_≡_}
 use mathlib.Core.Bool.{Bool, true, cond, _&&_}
 use mathlib.Core.List.{List, [], _∷_}
 use Prim.Native.Nat.{ℕ, _+_}
@@ -38,6 +39,10 @@ parse list = parseFrom 0 list
 abbrev pub tripsOf : Parsed → List Trip
 tripsOf (trips ts) = ts
 tripsOf (refusal a) = []
+
+-- these are trips, and no refusal
+abbrev pub Trips : Parsed → Type 0
+Trips p = p ≡ trips (tripsOf p)
 
 -- the trips of a list, none where it is refused
 abbrev pub tripsIn : List ℕ → List Trip

@@ -14,14 +14,14 @@ use Rattle.answer.proofs.Coded.{number-done}
 use Rattle.memory.specs.Bytes.{overwrite}
 use Rattle.scan.proofs.Scan.{is-false}
 use Rattle.trip_list.specs.Trip.{spell}
-use Rattle.trip_list.specs.List.{Parsed, parse, parseFrom, tripsOf, greatestList, answerOf, listAnswer, spelling, writeAnswer, written}
+use Rattle.trip_list.specs.List.{Parsed, parse, parseFrom, tripsOf, greatestList, answerOf, listAnswer, spelling, writeAnswer, written, Trips}
 use Rattle.trip_list.proofs.Claims.{trips-valid, never-longer}
 use Rattle.trip_list.proofs.Parsing.{accepted-short, accepted, list-parsed}
 use Rattle.trip_list.proofs.Walking.{write-answer}
 use Rattle.trip_join.specs.Join.{joinedText, joinAnswer, joined}
 use Rattle.trip_join.proofs.Claims.{join-none}
 use Rattle.trip_writer.specs.declared.Stage as stage
-use Rattle.trip_writer.specs.Joining.{noMinute, Trips, Joining}
+use Rattle.trip_writer.specs.Joining.{noMinute, Joining}
 use Rattle.trip_writer.proofs.Joining.{walk-refused, Ended, ended}
 
 -- ---- accepted lists

@@ -3,10 +3,9 @@ use mathlib.Core.Path.{_≡_, refl, sym, ap, _∙_}
 use mathlib.Core.Bool.{Bool, true, false, cond, _&&_}
 use mathlib.Core.List.{List, [], _∷_, _++_, append-assoc, append-nil}
 use mathlib.Core.Logic.{_≢_}
-use Prim.Native.Nat.{ℕ, _+_, _-_, _*_, _≤_, _<_, min, max}
+use Prim.Native.Nat.{ℕ, _+_, _-_, _*_, _≤_, _<_, min}
 use native.Mathlib.Omega.{arith}
 use lib.ListN.{length, take, drop, length-append, length-drop}
-use lib.Seq.{drop-drop}
 use borrow.Author.Tests.{eq-eqb, ne-eqb}
 use Rattle.answer.specs.declared.Answer.{Answer}
 use Rattle.answer.specs.declared.Answer.the-variants as answers
@@ -17,25 +16,26 @@ use Rattle.answer.proofs.Coded.{refusal-number}
 use Rattle.memory.specs.Bytes.{part}
 use Rattle.memory.proofs.Cases.{split-lt}
 use Rattle.scan.specs.Scan.{sameBytes}
-use Rattle.scan.proofs.Scan.{and-assoc}
+use Rattle.scan.proofs.Scan.{and-true, and-assoc}
 use Rattle.trip_list.specs.declared.Line as line
 use Rattle.trip_list.specs.declared.Step.{Step}
 use Rattle.trip_list.specs.declared.Step.the-variants.{At, Refused}
 use Rattle.trip_list.specs.Trip.{Trip, spellTrip, spell}
-use Rattle.trip_list.specs.List.{Parsed, trips, refusal, before, parse, tripsOf, tripsIn, greatestList, listAnswer, validFrom}
-use Rattle.trip_list.specs.Lines.{firstTrip, driverStart}
+use Rattle.trip_list.specs.List.{Parsed, trips, refusal, before, parse, tripsOf, Trips, tripsIn, greatestList, listAnswer, validFrom}
+use Rattle.trip_list.specs.Lines.{firstTrip}
 use Rattle.trip_list.specs.Steps.{told, lineGiven}
 use Rattle.trip_list.specs.Scanner.{greatestLine, LineAt}
 use Rattle.trip_list.proofs.Parsing.{line-some, from-end, not-both}
 use Rattle.trip_list.proofs.Claims.{parsed-valid}
 use Rattle.trip_list.proofs.Stepping.{step-line, step-refused, line-inside, minute-fits}
-use Rattle.trip_list.proofs.Walking.{spell-join, line-before, driver-part}
+use Rattle.trip_list.proofs.Walking.{spell-join, line-before, driver-at}
 use Rattle.trip_join.specs.Join.{sameRest, agree, join, joinedTrips, joinedText}
+use Rattle.trip_join.proofs.Claims.{agree-none}
 use Rattle.trip_join.proofs.Laws.{raised, join-first, join-second, join-both, agree-first, agree-second, agree-both}
 use Rattle.trip_writer.specs.declared.Place as place
 use Rattle.trip_writer.specs.declared.Stage as stage
 use Rattle.trip_writer.specs.Spelling.{spelledLine}
-use Rattle.trip_writer.specs.Joining.{noMinute, Trips, from, Headed, HeadAt, Joined, Joining, asFirst, asSecond, Placed, Advanced}
+use Rattle.trip_writer.specs.Joining.{noMinute, from, Headed, HeadAt, Joined, Joining, asFirst, asSecond, Placed, Advanced}
 use Rattle.trip_writer.proofs.Pieces.{spelled-shorter}
 
 -- ---- the next line
@@ -147,8 +147,7 @@ driver-bytes list at l a n q =
     let s = drop at list in
     ap (λ (k : ℕ). part list (at + l .driver) k) (q ∙ a .read .letters)
     ∙ ap (λ (k : ℕ). part list (at + k) (length (firstTrip s .driver))) (a .read .driver)
-    ∙ ap (take (length (firstTrip s .driver))) (sym (drop-drop (driverStart s) at list))
-    ∙ driver-part s (a .form)
+    ∙ driver-at list at (a .form)
 
 module _ (x : List ℕ) (i : ℕ) (a : line.Line) (p : LineAt x i a) (y : List ℕ) (j : ℕ) (b : line.Line) (q : LineAt y j b) where
   pub metres-differ : a .metres ≢ b .metres → false ≡ sameRest (firstTrip (drop i x)) (firstTrip (drop j y))
@@ -318,7 +317,7 @@ module _ (list : List ℕ) (limit : ℕ) (most : limit ≤ noMinute) (xs ys zs :
         same = same ∙ s .same;
       }
 
--- what the code asks for at a place
+-- what holds at a place
 module _ (list xs : List ℕ) (q : place.Place) (w : Placed list xs q) (some : q .line .minute < noMinute) where
   pub place-ready : LineAt list (q .at) (q .line) × (greatestList + 2 * greatestLine ≤ length xs) × (q .end ≤ 2 * greatestList)
   place-ready = (line-here list (q .at) (q .line) (w .head) some, w .room, omega (arith, w .fits, w .head .within))
@@ -351,19 +350,12 @@ module _ (x y xs : List ℕ) (s : stage.Stage) (w : Joining x y xs s) where
   pub second-on : s .b .minute < noMinute → (s .j < s .j + s .b .length) × (s .j + s .b .length ≤ greatestList)
   second-on some = (next-on y (s .j) (s .b) (w .second) some, omega (arith, next-within y (s .j) (s .b) (w .second) some, w .lengths .1))
 
--- lines of one of both lists were spelled
-module _ (x y xs ys : List ℕ) (s : stage.Stage) (w : Joining x y xs s) (list : List ℕ) (limit : ℕ) (p q : place.Place) (e : Advanced list limit xs p ys q) (stops : limit ≤ q .line .minute) where
-  pub second-advanced : list ≡ y → p ≡ record { at = s .j; line = s .b; end = s .end } → limit ≡ max (s .a .minute) (s .b .minute) → s .b .minute < s .a .minute
-      → Joining x y ys (asSecond q (s .i) (s .a) (s .agree)) × (s .i + s .j < s .i + q .at)
-  second-advanced el ep em less =
-      let t : Advanced y limit xs (record { at = s .j; line = s .b; end = s .end }) ys q = rw (← el, ← ep) e in
-      (t .second x (s .i) (s .a) (s .agree) (omega arith) w, omega (arith, t .on (omega arith) stops))
-
-  pub first-advanced : list ≡ x → p ≡ record { at = s .i; line = s .a; end = s .end } → limit ≡ max (s .a .minute) (s .b .minute) → s .a .minute < s .b .minute
-      → Joining x y ys (asFirst q (s .j) (s .b) (s .agree)) × (s .i + s .j < q .at + s .j)
-  first-advanced el ep em less =
-      let t : Advanced x limit xs (record { at = s .i; line = s .a; end = s .end }) ys q = rw (← el, ← ep) e in
-      (t .first y (s .j) (s .b) (s .agree) (omega arith) w, omega (arith, t .on (omega arith) stops))
+-- the lines of a list whose next one is lower than the other's were spelled
+pub advanced-by : (list : List ℕ) (limit : ℕ) (xs : List ℕ) (p : place.Place) (ys : List ℕ) (q : place.Place) → Advanced list limit xs p ys q → limit ≤ q .line .minute
+    → (u : List ℕ) (r : place.Place) (other : ℕ) → list ≡ u → p ≡ r → limit ≡ other → r .line .minute < other → Advanced u limit xs r ys q × (limit ≤ other) × (r .at < q .at)
+advanced-by list limit xs p ys q e stops u r other el ep em less =
+    let t : Advanced u limit xs r ys q = rw (← el, ← ep) e in
+    (t, omega arith, t .on (omega arith) stops)
 
 -- ---- both lists are at their ends
 
@@ -382,11 +374,6 @@ pub record Ended (x y xs : List ℕ) (s : stage.Stage) : Type 0 where
   pub ends : s .end ≡ length (joinedText x y)
   pub laid : s .end ≤ greatestList → take (s .end) xs ≡ joinedText x y
 
-agree-none : (b : Bool) → b && agree [] [] ≡ b
-unfolding agree
-agree-none true = refl
-agree-none false = refl
-
 pub ended : (x y xs : List ℕ) (s : stage.Stage) → Joining x y xs s → noMinute ≤ min (s .a .minute) (s .b .minute) → length x ≤ s .i → length y ≤ s .j → Ended x y xs s
 ended x y xs s w none ox oy =
     let tx = walk-whole x (s .i) (s .a) (w .first) ox in
@@ -398,7 +385,7 @@ ended x y xs s w none ox oy =
     record {
       first = tx;
       second = ty;
-      agrees = p .agrees ∙ rw (nx, ny) (agree-none (s .agree));
+      agrees = p .agrees ∙ rw (nx, ny, agree-none []) (and-true (s .agree));
       ends = p .ends ∙ ap (λ (ts : List Trip). length (spell ts)) (sym all);
       laid = λ f. p .laid f ∙ ap spell (sym all);
     }

@@ -6,7 +6,7 @@ use Prim.Native.Nat.{ℕ, _+_, _*_, _≤_, _<_}
 use lib.ListN.{length, take, drop}
 use Rattle.trip_list.specs.declared.Line as line
 use Rattle.trip_list.specs.Trip.{Trip, spell}
-use Rattle.trip_list.specs.List.{Parsed, trips, parse, parseFrom, tripsOf, tripsIn, greatestList}
+use Rattle.trip_list.specs.List.{Parsed, parse, parseFrom, tripsOf, Trips, tripsIn, greatestList}
 use Rattle.trip_list.specs.Scanner.{greatestLine, LineAt}
 use Rattle.trip_join.specs.Join.{agree, join, joinedTrips}
 use Rattle.trip_writer.specs.declared.Place as place
@@ -15,10 +15,6 @@ use Rattle.trip_writer.specs.declared.Stage as stage
 -- above every minute
 abbrev pub noMinute : ℕ
 noMinute = 4294967296
-
--- these are trips, and no refusal
-abbrev pub Trips : Parsed → Type 0
-Trips p = p ≡ trips (tripsOf p)
 
 -- what a list has from an index on, with minutes of at least `least`
 abbrev pub from : List ℕ → ℕ → ℕ → Parsed

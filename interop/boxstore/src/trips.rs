@@ -137,9 +137,9 @@ pub fn write_trips<'a>(list: &[u8], buffer: &'a mut [u8; LIST_BYTES]) -> Result<
 ///
 /// The first list is checked as [`trips`] checks it, and refused with
 /// [`Error::Range`], [`Error::TripForm`] or [`Error::TripOrder`]; then the second.
-/// Then the join is refused with [`Error::TripConflict`] where a minute has other metres or another driver in
-/// the second list, else with [`Error::TripsTooLong`] where the joined list is
-/// longer than [`LIST_BYTES`].
+/// Then the join is refused with [`Error::TripConflict`] where a minute has other
+/// metres or another driver in the second list, else with
+/// [`Error::TripsTooLong`] where the joined list is longer than [`LIST_BYTES`].
 ///
 /// The call takes about 5 KB of stack, most of it for the joined list.
 ///

@@ -2,12 +2,12 @@
 use borrow.Author.Needs.{needs}
 use mathlib.Core.Path.{_≡_, ap, _∙_}
 use mathlib.Core.Bool.{Bool, _&&_}
-use Prim.Native.Nat.{_<_}
+use Prim.Native.Nat.{_<_, max}
 use native.Mathlib.Omega.{arith}
 use lib.Dec.{ltb}
 use borrow.Author.Tests.{ltb-true, ltb-false}
 use Rattle.trip_writer.specs.Joining.{noMinute}
-use Rattle.trip_writer.proofs.Joining.{picked-placed, first-here, second-here, second-on, skip-next, first-advanced, second-advanced}
+use Rattle.trip_writer.proofs.Joining.{picked-placed, first-here, second-here, second-on, skip-next, advanced-by}
 use Rattle.trip_writer.proofs.join_next.Statement.{statement}
 use Rattle.trip_writer.proofs.join_next.Tie as tie
 
@@ -61,14 +61,19 @@ same-length c = search needs
 returns-2 : tie.Need-returns-2
 returns-2 c =
     let k = c .before .before .before .before .before .before .before .before .before .before .before .before .before .before .before .before .before .before .before in
+    let s = k .args .s in
     let e = c .before .before .before .before .spell-below .ensures in
-    second-advanced _ _ _ _ _ (k .pre .0) _ _ _ _ (e .0) (e .1) (rw (c .if2 .taken) at (c .before .before .before .before .before .before .before .before .pick-list .ensures)) (rw (c .if2 .taken) at (c .before .before .before .before .before .before .before .pick-place .ensures)) (c .before .before .before .before .before .before .max .ensures) (ltb-true _ _ (c .if2 .taken))
+    let less = ltb-true (s .b .minute) (s .a .minute) (c .if2 .taken) in
+    let top : max (s .a .minute) (s .b .minute) ≡ s .a .minute = omega (arith, less) in
+    let t =
+    advanced-by _ _ _ _ _ _ (e .0) (e .1) _ _ (s .a .minute) (rw (c .if2 .taken) at (c .before .before .before .before .before .before .before .before .pick-list .ensures)) (rw (c .if2 .taken) at (c .before .before .before .before .before .before .before .pick-place .ensures)) (c .before .before .before .before .before .before .max .ensures ∙ top) less in
+    (t .0 .second _ _ _ _ (t .1) (k .pre .0), omega (arith, t .2))
 
 same-length-2 : tie.Need-same-length-2
 same-length-2 c = search needs
 
 -- in the third the first list's is lower
-less : (c : tie.Else2) → c .before .before .before .before .before .before .before .before .before .before .before .before .before .before .before .before .before .before .before .args .s .a .minute < c .before .before .before .before .before .before .before .before .before .before .before .before .before .before .before .before .before .before .before .args .s .b .minute
+less : (c : tie.Else2) → let s = c .before .before .before .before .before .before .before .before .before .before .before .before .before .before .before .before .before .before .before .args .s in s .a .minute < s .b .minute
 less c =
     let s = c .before .before .before .before .before .before .before .before .before .before .before .before .before .before .before .before .before .before .before .args .s in
     omega (arith, ltb-false (s .b .minute) (s .a .minute) (c .if2 .left))
@@ -76,8 +81,12 @@ less c =
 returns-3 : tie.Need-returns-3
 returns-3 c =
     let k = c .before .before .before .before .before .before .before .before .before .before .before .before .before .before .before .before .before .before .before in
+    let s = k .args .s in
     let e = c .before .before .before .before .spell-below .ensures in
-    first-advanced _ _ _ _ _ (k .pre .0) _ _ _ _ (e .0) (e .1) (rw (c .if2 .left) at (c .before .before .before .before .before .before .before .before .pick-list .ensures)) (rw (c .if2 .left) at (c .before .before .before .before .before .before .before .pick-place .ensures)) (c .before .before .before .before .before .before .max .ensures) (less c)
+    let top : max (s .a .minute) (s .b .minute) ≡ s .b .minute = omega (arith, less c) in
+    let t =
+    advanced-by _ _ _ _ _ _ (e .0) (e .1) _ _ (s .b .minute) (rw (c .if2 .left) at (c .before .before .before .before .before .before .before .before .pick-list .ensures)) (rw (c .if2 .left) at (c .before .before .before .before .before .before .before .pick-place .ensures)) (c .before .before .before .before .before .before .max .ensures ∙ top) (less c) in
+    (t .0 .first _ _ _ _ (t .1) (k .pre .0), omega (arith, t .2))
 
 pub join-next-spec : {M : Type 1} → statement M
 join-next-spec =
