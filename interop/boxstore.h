@@ -57,7 +57,7 @@
  *  10 TRIP FORM    the line lacks the form
  *  11 TRIP ORDER   its minute is not above that of the line before
  *
- * and a join of two lists that are sound, the first of these that applies:
+ * and a join of two lists neither of which is refused, the first of these that applies:
  *
  *  17 TRIP CONFLICT    a minute has other metres or another driver in the second list
  *  18 TRIPS TOO LONG   the joined list is longer than 4,096 bytes
@@ -414,7 +414,7 @@ static inline struct box_trips box_walk_trips(const void *list, size_t list_len)
 }
 
 /* Next trip of a walk: counts 1 and fills the trip; counts 0 at the end. A walk meets a bad line only when it gets there, is
- * refused, and gets no further: box_read_trip first, with any place, where the whole list is to be sound. */
+ * refused, and gets no further: box_read_trip first, with any place, to have the whole list checked. */
 static inline uint32_t box_next_trip(struct box_trips *trips, struct box_trip *trip)
 {
     uint32_t numbers[4];

@@ -12,6 +12,7 @@ use borrow.Author.Tests.{eq-eqb, ne-eqb, le-leb, lt-leb}
 use borrow.Table.Steps.{cases}
 use Rattle.answer.specs.Coded.{Coded, done, SHAPE, RANGE, TRIP-FORM, TRIP-ORDER, TRIP-CONFLICT, TRIPS-TOO-LONG}
 use Rattle.answer.proofs.Coded.{number-done}
+use Rattle.memory.specs.Bytes.{overwrite}
 use Rattle.memory.proofs.Bytes.{length-overwrite, overwrite-cut}
 use Rattle.memory.proofs.Cases.{split-eq, split-lt}
 use Rattle.scan.proofs.Scan.{true-not-false}
@@ -34,8 +35,12 @@ pub record Ready (x y buffer : List ℕ) : Type 0 where
 abbrev pub NoConflict : List ℕ → List ℕ → Type 0
 NoConflict x y = Conflict (tripsIn x) (tripsIn y) → ⊥
 
-agree-of : (x y : List ℕ) → NoConflict x y → agree (tripsIn x) (tripsIn y) ≡ true
-agree-of x y h = cases (agree (tripsIn x) (tripsIn y)) (λ e. e) (λ e. absurd (h (disagree (tripsIn x) (tripsIn y) e)))
+module _ (x y : List ℕ) where
+  agree-of : NoConflict x y → agree (tripsIn x) (tripsIn y) ≡ true
+  agree-of h = cases (agree (tripsIn x) (tripsIn y)) (λ e. e) (λ e. absurd (h (disagree (tripsIn x) (tripsIn y) e)))
+
+  pub free-of : agree (tripsIn x) (tripsIn y) ≡ true → NoConflict x y
+  free-of e c = true-not-false (agree (tripsIn x) (tripsIn y)) e (conflict-disagree (tripsIn x) (tripsIn y) c)
 
 module _ (x y buffer : List ℕ) where
   -- a buffer of another length is refused with SHAPE, whatever the lists
@@ -88,9 +93,7 @@ every-join x y buffer =
     (λ b.
     let r : Ready x y buffer = record { room = h; first = a; second = b } in
     cases (agree (tripsIn x) (tripsIn y))
-    (λ e.
-    let free : NoConflict x y = λ c. true-not-false (agree (tripsIn x) (tripsIn y)) e (conflict-disagree (tripsIn x) (tripsIn y) c) in
-    split-lt 4096 (length (joinedText x y)) (λ l. long r free l) (λ l. fits r free l))
+    (λ e. split-lt 4096 (length (joinedText x y)) (λ l. long r (free-of x y e) l) (λ l. fits r (free-of x y e) l))
     (λ e. conflict r (disagree (tripsIn x) (tripsIn y) e)))
     (λ b. second h a b))
     (λ a. first h a))
@@ -210,14 +213,18 @@ module _ (x y buffer : List ℕ) (n : ℕ) (e : joinAnswer x y buffer ≡ done n
   shown : DoneJoin x y buffer n
   shown = done-only x y buffer n e
 
-  joined-cut : joined x y buffer ≡ joinedText x y ++ drop (0 + length (joinedText x y)) buffer
+  -- done, the text is laid over its front
+  pub done-written : joined x y buffer ≡ overwrite buffer 0 (joinedText x y)
   unfolding joined
+  done-written = rw e
+
+  joined-cut : joined x y buffer ≡ joinedText x y ++ drop (0 + length (joinedText x y)) buffer
   joined-cut =
       let d = shown in
       let room : 0 + length (joinedText x y) ≤ length buffer = omega (arith, d .count, d .short, d .ready .room) in
-      rw e (overwrite-cut buffer 0 (joinedText x y) room)
+      done-written ∙ overwrite-cut buffer 0 (joinedText x y) room
 
-  -- done, so many bytes in front are the text
+  -- so many bytes in front are the text
   pub done-front : take n (joined x y buffer) ≡ joinedText x y
   done-front = ap (take n) joined-cut ∙ take-at (joinedText x y) _ n (sym (shown .count))
 

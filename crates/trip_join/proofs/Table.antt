@@ -56,8 +56,10 @@ rows =
     ∷ bad "7,12,A\n6,5,A\n" "7,13" TRIP-ORDER
     ∷ bad "7,12" "7,13,A\n6,5,A\n" TRIP-FORM
     ∷ refusedRow (ascii "7,12") (ascii "7,13,A\n6,5,A\n") (nines 4095) SHAPE
+    ∷ refusedRow (ascii "7,12,A\n") (nines 4097) (nines 4097) SHAPE
     ∷ refusedRow (ascii "7,12") (nines 4097) (nines 4096) TRIP-FORM
     ∷ refusedRow (nines 4097) (ascii "7,12") (nines 4096) RANGE
+    ∷ refusedRow (ascii "7,12,A\n") (nines 4097) (nines 4096) RANGE
     ∷ []
 
 -- the answer of each row

@@ -17,7 +17,7 @@ ghost use Rattle.trip_list.specs.Steps.{told, lineGiven};
 ghost use Rattle.trip_list.specs.Scanner.{NumberRead, DriverRead, LineRead, LineAt, tripAt, Surveyed};
 
 // The longest list.
-const MAX_LIST: usize = 4096;
+pub const MAX_LIST: usize = 4096;
 
 // The greatest minute and the most metres.
 const MAX_NUMBER: usize = 4294967295;

@@ -6,12 +6,12 @@ use mathlib.Core.Logic.{_≢_}
 use Prim.Native.Nat.{ℕ, _≤_, _<_, min, max}
 use native.Mathlib.Omega.{arith}
 use lib.ListN.{length, take}
-use borrow.Author.Tests.{eq-eqb, ne-eqb, eqb-true, le-leb, lt-leb}
-use borrow.Table.Steps.{cases}
+use borrow.Author.Tests.{eq-eqb, ne-eqb, eqb-true}
 use Rattle.answer.specs.Coded.{Coded, done, SHAPE, TRIP-CONFLICT, TRIPS-TOO-LONG}
 use Rattle.answer.specs.Admission.{isDone, ifDone}
 use Rattle.answer.proofs.Coded.{number-done}
 use Rattle.memory.specs.Bytes.{overwrite}
+use Rattle.memory.proofs.Cases.{split-eq}
 use Rattle.scan.proofs.Scan.{is-false}
 use Rattle.trip_list.specs.Trip.{spell}
 use Rattle.trip_list.specs.List.{Parsed, parse, parseFrom, tripsOf, greatestList, answerOf, listAnswer, spelling, writeAnswer, written, Trips}
@@ -19,18 +19,19 @@ use Rattle.trip_list.proofs.Claims.{trips-valid, never-longer}
 use Rattle.trip_list.proofs.Parsing.{accepted-short, accepted, list-parsed}
 use Rattle.trip_list.proofs.Walking.{write-answer}
 use Rattle.trip_join.specs.Join.{joinedText, joinAnswer, joined}
-use Rattle.trip_join.proofs.Claims.{join-none}
+use Rattle.trip_join.proofs.Claims.{disagree, join-none}
+use Rattle.trip_join.proofs.CallClaims.{Ready, NoConflict, free-of, shape-refused, first-refused, second-refused, conflict-refused, long-refused, join-done, refused-keeps, done-written}
 use Rattle.trip_writer.specs.declared.Stage as stage
 use Rattle.trip_writer.specs.Joining.{noMinute, Joining}
 use Rattle.trip_writer.proofs.Joining.{walk-refused, Ended, ended}
 
 -- ---- accepted lists
 
-short-done : (list : List ℕ) → isDone (listAnswer list) ≡ true → length list ≤ greatestList
-short-done list e = accepted-short list _ (number-done (listAnswer list) (eqb-true _ _ e))
+short-done : (list : List ℕ) → listAnswer list .number ≡ 0 → length list ≤ greatestList
+short-done list e = accepted-short list _ (number-done (listAnswer list) e)
 
-trips-done : (list : List ℕ) → isDone (listAnswer list) ≡ true → Trips (parse list)
-trips-done list e = accepted list _ (number-done (listAnswer list) (eqb-true _ _ e))
+trips-done : (list : List ℕ) → listAnswer list .number ≡ 0 → Trips (parse list)
+trips-done list e = accepted list _ (number-done (listAnswer list) e)
 
 answer-trips : (p : Parsed) → Trips p → answerOf p ≡ done (length (tripsOf p))
 answer-trips p e = ap answerOf e
@@ -40,52 +41,50 @@ done-trips list h t = sym (list-parsed list h) ∙ answer-trips (parse list) t
 
 -- ---- the join
 
-pub join-shape : (x y buffer : List ℕ) → length buffer ≢ greatestList → (SHAPE ≡ joinAnswer x y buffer) × (buffer ≡ joined x y buffer)
-unfolding joinAnswer joined
-join-shape x y buffer n = rw (ne-eqb _ _ n) (refl, refl)
+module _ (x y buffer : List ℕ) where
+  refused-as : (a b : Coded) → a ≡ b → b .number ≢ 0 → joinAnswer x y buffer ≡ b → (a ≡ joinAnswer x y buffer) × (buffer ≡ joined x y buffer)
+  refused-as a b q n e = (q ∙ sym e, sym (refused-keeps x y buffer (rw e n)))
 
-module _ (x y buffer : List ℕ) (h : length buffer ≡ greatestList) where
-  -- not both lists are accepted
-  join-refused : (isDone (listAnswer x) ≡ true → isDone (listAnswer y) ≡ true → ⊥) → (a : Coded) → a ≡ ifDone (listAnswer x) (listAnswer y) (listAnswer x)
-      → (a ≡ joinAnswer x y buffer) × (buffer ≡ joined x y buffer)
-  unfolding joinAnswer joined
-  join-refused n a e =
-      cases (isDone (listAnswer x))
-      (λ d. cases (isDone (listAnswer y))
-      (λ f. absurd (n d f))
-      (λ f. (e ∙ rw (eq-eqb _ _ h, d, f), rw (eq-eqb _ _ h, d, f, f))))
-      (λ d. (e ∙ rw (eq-eqb _ _ h, d), rw (eq-eqb _ _ h, d, d)))
+  pub join-shape : length buffer ≢ greatestList → (SHAPE ≡ joinAnswer x y buffer) × (buffer ≡ joined x y buffer)
+  join-shape n = refused-as _ SHAPE refl (λ q. omega (arith, q)) (shape-refused x y buffer n)
 
-  module _ (a : Coded) (e : a ≡ ifDone (listAnswer x) (listAnswer y) (listAnswer x)) where
-    pub join-long : greatestList < max (length x) (length y) → (a ≡ joinAnswer x y buffer) × (buffer ≡ joined x y buffer)
-    join-long l = join-refused (λ d f. absurd (omega (arith, short-done x d, short-done y f))) a e
+  module _ (h : length buffer ≡ greatestList) where
+    module _ (a : Coded) (e : a ≡ ifDone (listAnswer x) (listAnswer y) (listAnswer x)) where
+      -- not both lists are accepted
+      join-refused : (listAnswer x .number ≡ 0 → listAnswer y .number ≡ 0 → ⊥) → (a ≡ joinAnswer x y buffer) × (buffer ≡ joined x y buffer)
+      join-refused n =
+          split-eq (listAnswer x .number) 0
+          (λ d. refused-as a (listAnswer y) (e ∙ rw (eq-eqb _ _ d)) (n d) (second-refused x y buffer h d (n d)))
+          (λ d. refused-as a (listAnswer x) (e ∙ rw (ne-eqb _ _ d)) d (first-refused x y buffer h d))
 
-    pub first-bad : (Trips (parse x) → ⊥) → (a ≡ joinAnswer x y buffer) × (buffer ≡ joined x y buffer)
-    first-bad n = join-refused (λ d f. n (trips-done x d)) a e
+      pub join-long : greatestList < max (length x) (length y) → (a ≡ joinAnswer x y buffer) × (buffer ≡ joined x y buffer)
+      join-long l = join-refused (λ d f. absurd (omega (arith, short-done x d, short-done y f)))
 
-    pub second-bad : (Trips (parse y) → ⊥) → (a ≡ joinAnswer x y buffer) × (buffer ≡ joined x y buffer)
-    second-bad n = join-refused (λ d f. n (trips-done y f)) a e
+      pub first-bad : (Trips (parse x) → ⊥) → (a ≡ joinAnswer x y buffer) × (buffer ≡ joined x y buffer)
+      first-bad n = join-refused (λ d f. n (trips-done x d))
 
-  -- both are
-  module _ (hx : length x ≤ greatestList) (hy : length y ≤ greatestList) (xs : List ℕ) (s : stage.Stage) (w : Ended x y xs s) where
-    first-done : listAnswer x ≡ done (length (tripsOf (parse x)))
-    first-done = done-trips x hx (w .first)
+      pub second-bad : (Trips (parse y) → ⊥) → (a ≡ joinAnswer x y buffer) × (buffer ≡ joined x y buffer)
+      second-bad n = join-refused (λ d f. n (trips-done y f))
 
-    second-done : listAnswer y ≡ done (length (tripsOf (parse y)))
-    second-done = done-trips y hy (w .second)
+    -- both are
+    module _ (hx : length x ≤ greatestList) (hy : length y ≤ greatestList) (xs : List ℕ) (s : stage.Stage) (w : Ended x y xs s) where
+      ready : Ready x y buffer
+      ready = record { room = h; first = rw (done-trips x hx (w .first)); second = rw (done-trips y hy (w .second)) }
 
-    pub join-conflict : s .agree ≡ false → (TRIP-CONFLICT ≡ joinAnswer x y buffer) × (buffer ≡ joined x y buffer)
-    unfolding joinAnswer joined
-    join-conflict n = rw (eq-eqb _ _ h, first-done, second-done, w .agrees, n) (refl, refl)
+      pub join-conflict : s .agree ≡ false → (TRIP-CONFLICT ≡ joinAnswer x y buffer) × (buffer ≡ joined x y buffer)
+      join-conflict n = refused-as _ TRIP-CONFLICT refl (λ q. omega (arith, q)) (conflict-refused x y buffer ready (disagree _ _ (w .agrees ∙ n)))
 
-    module _ (agrees : s .agree ≡ true) where
-      pub join-too-long : greatestList < s .end → (TRIPS-TOO-LONG ≡ joinAnswer x y buffer) × (buffer ≡ joined x y buffer)
-      unfolding joinAnswer joined
-      join-too-long l = rw (eq-eqb _ _ h, first-done, second-done, w .agrees, agrees, ← (w .ends), lt-leb _ _ l) (refl, refl)
+      module _ (agrees : s .agree ≡ true) where
+        free : NoConflict x y
+        free = free-of x y (w .agrees ∙ agrees)
 
-      pub join-fits : s .end ≤ greatestList → (ys : List ℕ) → ys ≡ overwrite buffer 0 (take (s .end) xs) → (done (s .end) ≡ joinAnswer x y buffer) × (ys ≡ joined x y buffer)
-      unfolding joinAnswer joined
-      join-fits l ys e = rw (eq-eqb _ _ h, first-done, second-done, w .agrees, agrees, ← (w .ends), le-leb _ _ l) (refl, e ∙ ap (overwrite buffer 0) (w .laid l))
+        pub join-too-long : greatestList < s .end → (TRIPS-TOO-LONG ≡ joinAnswer x y buffer) × (buffer ≡ joined x y buffer)
+        join-too-long l = refused-as _ TRIPS-TOO-LONG refl (λ q. omega (arith, q)) (long-refused x y buffer ready free (omega (arith, w .ends, l)))
+
+        pub join-fits : s .end ≤ greatestList → (ys : List ℕ) → ys ≡ overwrite buffer 0 (take (s .end) xs) → (done (s .end) ≡ joinAnswer x y buffer) × (ys ≡ joined x y buffer)
+        join-fits l ys e =
+            let d = join-done x y buffer ready free (omega (arith, w .ends, l)) in
+            (ap done (w .ends) ∙ sym d, e ∙ ap (overwrite buffer 0) (w .laid l) ∙ sym (done-written x y buffer _ d))
 
 -- ---- the writer: a list joined with no other
 
@@ -104,7 +103,7 @@ module _ (list : List ℕ) (short : length list ≤ greatestList) (ys : List ℕ
     pub write-refused : s .i < length list → (a : Coded) → a ≡ listAnswer list → (a ≡ writeAnswer list buffer) × (buffer ≡ written list buffer)
     unfolding written
     write-refused inside a e =
-        let n : isDone (listAnswer list) ≡ false = is-false _ (λ f. walk-refused list (s .i) (s .a) (w .first) (omega arith) inside (trips-done list f)) in
+        let n : isDone (listAnswer list) ≡ false = is-false _ (λ f. walk-refused list (s .i) (s .a) (w .first) (omega arith) inside (trips-done list (eqb-true _ _ f))) in
         let v = write-answer list buffer shape a (e ∙ rw n) in
         (v, rw (← v, e, n))
 

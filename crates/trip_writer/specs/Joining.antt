@@ -5,7 +5,7 @@ use mathlib.Core.List.{List, _++_}
 use Prim.Native.Nat.{ℕ, _+_, _*_, _≤_, _<_}
 use lib.ListN.{length, take, drop}
 use Rattle.trip_list.specs.declared.Line as line
-use Rattle.trip_list.specs.Trip.{Trip, spell}
+use Rattle.trip_list.specs.Trip.{Trip, greatestNumber, spell}
 use Rattle.trip_list.specs.List.{Parsed, parse, parseFrom, tripsOf, Trips, tripsIn, greatestList}
 use Rattle.trip_list.specs.Scanner.{greatestLine, LineAt}
 use Rattle.trip_join.specs.Join.{agree, join, joinedTrips}
@@ -14,7 +14,7 @@ use Rattle.trip_writer.specs.declared.Stage as stage
 
 -- above every minute
 abbrev pub noMinute : ℕ
-noMinute = 4294967296
+noMinute = greatestNumber + 1
 
 -- what a list has from an index on, with minutes of at least `least`
 abbrev pub from : List ℕ → ℕ → ℕ → Parsed

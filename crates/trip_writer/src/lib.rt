@@ -2,6 +2,7 @@
 use answer::Answer;
 use answer::Refusal;
 use trip_list::Line;
+use trip_list::MAX_LIST;
 use trip_list::Step;
 ghost use mathlib.Core.Path.{_≡_};
 ghost use mathlib.Core.Bool.{cond, _&&_};
@@ -20,14 +21,11 @@ ghost use Rattle.trip_join.specs.Join.{sameRest, joinAnswer, joined};
 ghost use Rattle.trip_writer.specs.Spelling.{spelledLine, KeptAt};
 ghost use Rattle.trip_writer.specs.Joining.{noMinute, Headed, Placed, Advanced, Joining};
 
-// The longest list.
-const MAX_LIST: usize = 4096;
-
 // The longest line: two numbers, a driver, and a mark after each.
 const MAX_LINE: usize = 39;
 
 // The longest list, and after it the longest line twice: a line is copied as two pieces of that length.
-const ROOM: usize = 4174;
+const ROOM: usize = MAX_LIST + 2 * MAX_LINE;
 
 // ---- one line
 
@@ -153,8 +151,8 @@ fn head(list: &[u8], at: usize, least: usize) -> Line
     }
 }
 
-// The one spelling of the line that starts at index `at` is laid over the output from `end` on, where that is within the longest list.
-// The index after it comes back, wherever that is. Past the longest list nothing else is told.
+// The one spelling of the line that starts at index `at` is laid over the output from `end` on, where it ends within 4,096 bytes. The
+// index after it comes back in any case; past 4,096 bytes nothing else is told.
 fn put_within(list: &[u8], at: usize, line: Line, output: &mut [u8], end: usize) -> usize
     requires { ⌜ LineAt (now list) at line × (greatestList + 2 * greatestLine ≤ length (now output)) × (end ≤ 2 * greatestList) ⌝ }
     ensures { λ r. ⌜ (r ≡ end + length (spelledLine (now (list .entry)) at))
@@ -320,8 +318,8 @@ fn next_minute(s: Stage) -> usize
     number::min(a.minute, b.minute)
 }
 
-// The join of two lists is spelled at the front of the output, where it fits the longest list; it is counted in any case. Each list
-// is gone through to its end or to the first line that is refused.
+// The join of two lists is spelled at the front of the output, as far as it is within 4,096 bytes; it is counted in any case. Each
+// list is gone through to its end or to the first line that is refused.
 fn join_lines<'a>(first: &'a [u8], second: &'a [u8], output: &mut [u8]) -> Stage
     requires { ⌜ (length (now first) ≤ greatestList) × (length (now second) ≤ greatestList) × (greatestList + 2 * greatestLine ≤ length (now output)) ⌝ }
     ensures { λ r. ⌜ Joining (now (first .entry)) (now (second .entry)) (now (output .exit)) r × (noMinute ≤ min (r .a .minute) (r .b .minute)) ⌝ }
