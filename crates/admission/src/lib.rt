@@ -1,5 +1,7 @@
 // What every call on a file begins with, on the bytes of the cache state: the order of refusals, sound states, and the slot of each
 // page. Beside it what calls do to the slots later: the first free one, pages that are freed, and the state that a mount leaves.
+#![tactic(auto)]
+
 ghost use Rattle.std.specs.Prelude.{◌≡◌, true, false, cond, ◌&&◌, List, ◌++◌, ℕ, ◌+◌, ◌<◌, ◌≤◌, length, get_or, eqb, leb};
 ghost use Rattle.answer.specs.Coded.{coded, done};
 ghost use Rattle.answer.specs.Admission.{first_refusal};

@@ -1,11 +1,13 @@
 // The answer of a call: done with a count, or refused for one of thirteen reasons.
 //
 // `coded` in specs/ gives each case its number and its count; every contract of the store speaks of answers through it.
+#![tactic(auto)]
+
 ghost use Rattle.std.specs.Prelude.{◌≡◌};
 ghost use Rattle.answer.specs.Coded.{coded, coded_refusal};
 
 // The refusals, in the order of their numbers. A call on files tests the first nine in this order.
-#[derive(Drop)]
+#[derive(Clone, Copy)]
 pub enum Refusal {
     // The session line has none of the forms.
     Line,
@@ -36,7 +38,7 @@ pub enum Refusal {
     TripsTooLong,
 }
 
-#[derive(Drop)]
+#[derive(Clone, Copy)]
 pub enum Answer {
     // Done, with a count.
     Done(usize),

@@ -3,6 +3,8 @@
 // interop/boxstore.h is this interface for C, with what it asks of its caller. specs/Interface.antt says what each call gives.
 //
 // An answer is one word, 65,536 × number + count. Number 0 is done, so a done call answers its count.
+#![tactic(auto)]
+
 ghost use Rattle.std.specs.Prelude.{◌≡◌, List, ℕ, ◌<◌, length};
 ghost use Rattle.answer.specs.Coded.{coded};
 ghost use Rattle.media.specs.Geometry.{pages_per_file};
@@ -54,8 +56,8 @@ pub extern "C" fn boxstore_format(
     state: &mut [u8],
     budget: usize,
 ) -> u32
-    ensures { (frames : List ℕ) → reply result (borrowed (media_at_exit media sizes) frames state.new)
-        ≡ in_word (on_bytes (format pages_per_file budget) (borrowed (media_at_entry media sizes) frames state.old)) }
+    ensures { (frames : List ℕ) → reply result (borrowed (media_at_exit media.new sizes.new) frames state.new)
+        ≡ in_word (on_bytes (format pages_per_file budget) (borrowed (media_at_entry media.old sizes.old) frames state.old)) }
 {
     answer_word(writeback::format(media, sizes, state, budget))
 }
@@ -68,8 +70,8 @@ pub extern "C" fn boxstore_mount(
     state: &mut [u8],
     budget: usize,
 ) -> u32
-    ensures { (frames : List ℕ) → reply result (borrowed (media_at_exit media sizes) frames state.new)
-        ≡ in_word (on_bytes (mount pages_per_file budget) (borrowed (media_at_entry media sizes) frames state.old)) }
+    ensures { (frames : List ℕ) → reply result (borrowed (media_at_exit media.new sizes.new) frames state.new)
+        ≡ in_word (on_bytes (mount pages_per_file budget) (borrowed (media_at_entry media.old sizes.old) frames state.old)) }
 {
     answer_word(writeback::mount(media, sizes, state, budget))
 }
@@ -86,7 +88,7 @@ pub extern "C" fn boxstore_read(
     buffer: &mut [u8],
 ) -> u32
     ensures { reply result buffer.new
-        ≡ in_word (read_bytes pages_per_file file position buffer.old (borrowed_at_entry media sizes frames state)) }
+        ≡ in_word (read_bytes pages_per_file file position buffer.old (borrowed_at_entry media.now sizes.now frames.now state.now)) }
 {
     answer_word(reading::read(media, sizes, frames, state, file, position, buffer))
 }
@@ -102,8 +104,8 @@ pub extern "C" fn boxstore_write(
     position: usize,
     bytes: &[u8],
 ) -> u32
-    ensures { reply result (borrowed_at_exit media sizes frames state)
-        ≡ in_word (on_bytes (write pages_per_file file position bytes.now) (borrowed_at_entry media sizes frames state)) }
+    ensures { reply result (borrowed_at_exit media.now sizes.now frames.new state.new)
+        ≡ in_word (on_bytes (write pages_per_file file position bytes.now) (borrowed_at_entry media.now sizes.now frames.old state.old)) }
 {
     answer_word(writing::write(media, sizes, frames, state, file, position, bytes))
 }
@@ -118,8 +120,8 @@ pub extern "C" fn boxstore_truncate(
     file: usize,
     n: usize,
 ) -> u32
-    ensures { reply result (borrowed_at_exit media sizes frames state)
-        ≡ in_word (on_bytes (truncate pages_per_file file n) (borrowed_at_entry media sizes frames state)) }
+    ensures { reply result (borrowed_at_exit media.now sizes.now frames.new state.new)
+        ≡ in_word (on_bytes (truncate pages_per_file file n) (borrowed_at_entry media.now sizes.now frames.old state.old)) }
 {
     answer_word(writing::truncate(media, sizes, frames, state, file, n))
 }
@@ -134,8 +136,8 @@ pub extern "C" fn boxstore_sync(
     file: usize,
     budget: usize,
 ) -> u32
-    ensures { reply result (borrowed_at_exit media sizes frames state)
-        ≡ in_word (on_bytes (sync pages_per_file file budget) (borrowed_at_entry media sizes frames state)) }
+    ensures { reply result (borrowed_at_exit media.new sizes.new frames.now state.new)
+        ≡ in_word (on_bytes (sync pages_per_file file budget) (borrowed_at_entry media.old sizes.old frames.now state.old)) }
 {
     answer_word(writeback::sync(media, sizes, frames, state, file, budget))
 }
@@ -150,7 +152,7 @@ pub extern "C" fn boxstore_look_count(
     file: usize,
     position: usize,
 ) -> u32
-    ensures { result ≡ word_of (look_count_bytes pages_per_file file position (borrowed_at_entry media sizes frames state)) }
+    ensures { result ≡ word_of (look_count_bytes pages_per_file file position (borrowed_at_entry media.now sizes.now frames.now state.now)) }
 {
     answer_word(reading::look_count(media, sizes, frames, state, file, position))
 }
@@ -178,7 +180,7 @@ pub extern "C" fn boxstore_look(
     file: usize,
     position: usize,
 ) -> u64
-    ensures { result ≡ span_word (look_span_bytes pages_per_file file position (borrowed_at_entry media sizes frames state)) }
+    ensures { result ≡ span_word (look_span_bytes pages_per_file file position (borrowed_at_entry media.now sizes.now frames.now state.now)) }
 {
     span_word(reading::look_span(media, sizes, frames, state, file, position))
 }
@@ -215,8 +217,8 @@ pub extern "C" fn boxstore_write_page(page: &mut [u8], bytes: &[u8]) -> u32
 // SIZE by itself.
 #[unsafe(no_mangle)]
 pub extern "C" fn boxstore_write_size(media: &[u8], sizes: &mut [u32], file: usize, n: usize) -> u32
-    ensures { (result ≡ word_of (size_answer pages_per_file (media_at_entry media sizes) file n))
-        × (media_at_exit media sizes ≡ size_after pages_per_file (media_at_entry media sizes) file n) }
+    ensures { (result ≡ word_of (size_answer pages_per_file (media_at_entry media.now sizes.old) file n))
+        × (media_at_exit media.now sizes.new ≡ size_after pages_per_file (media_at_entry media.now sizes.old) file n) }
 {
     answer_word(media::write_size(media, sizes, file, n))
 }
@@ -224,8 +226,8 @@ pub extern "C" fn boxstore_write_size(media: &[u8], sizes: &mut [u32], file: usi
 // TRIM by itself.
 #[unsafe(no_mangle)]
 pub extern "C" fn boxstore_trim(media: &mut [u8], sizes: &mut [u32], file: usize, n: usize) -> u32
-    ensures { (result ≡ word_of (trim_answer pages_per_file (media_at_entry media sizes) file n))
-        × (media_at_exit media sizes ≡ trim_after pages_per_file (media_at_entry media sizes) file n) }
+    ensures { (result ≡ word_of (trim_answer pages_per_file (media_at_entry media.old sizes.old) file n))
+        × (media_at_exit media.new sizes.new ≡ trim_after pages_per_file (media_at_entry media.old sizes.old) file n) }
 {
     answer_word(media::trim(media, sizes, file, n))
 }

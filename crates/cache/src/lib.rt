@@ -4,6 +4,8 @@
 // A call borrows the media (bytes and stored sizes), the page frames, and buffers of its own. Start with `down_state` and a mount.
 // The calls work on the bytes of the state, for callers that keep it so; here these bytes are made and read. The crate in brackets
 // has the call, and says what it does.
+#![tactic(auto)]
+
 ghost use Rattle.std.specs.Prelude.{◌≡◌, List, ℕ};
 ghost use Rattle.answer.specs.Coded.{coded};
 ghost use Rattle.media.specs.Geometry.{pages_per_file};
@@ -45,7 +47,7 @@ pub fn read(
     buffer: &mut [u8],
 ) -> Outcome
     ensures { (give (coded result.answer) buffer.new
-        ≡ read pages_per_file file position buffer.old (device_at_entry media sizes frames cache))
+        ≡ read pages_per_file file position buffer.old (device_at_entry media.now sizes.now frames.now cache))
         × (result.cache ≡ cache) }
 {
     let state = bytes_of(cache);
@@ -62,7 +64,7 @@ pub fn look_span(
     file: usize,
     position: usize,
 ) -> Span
-    ensures { result ≡ look_span pages_per_file file position (device_at_entry media sizes frames cache) }
+    ensures { result ≡ look_span pages_per_file file position (device_at_entry media.now sizes.now frames.now cache) }
 {
     let state = bytes_of(cache);
     reading::look_span(media, sizes, frames, &state, file, position)
@@ -77,9 +79,9 @@ pub fn look<'a>(
     file: usize,
     position: usize,
 ) -> &'a [u8]
-    ensures { (result.now ≡ look pages_per_file file position (device_at_entry media sizes frames cache))
+    ensures { (result.now ≡ look pages_per_file file position (device_at_entry media.now sizes.now frames.now cache))
         × (result.ref_ptr ≡ look_place pages_per_file file position media.entry.ref_ptr frames.entry.ref_ptr
-        (device_at_entry media sizes frames cache)) }
+        (device_at_entry media.now sizes.now frames.now cache)) }
 {
     let span = look_span(media, sizes, frames, cache, file, position);
     let from = span.from;
@@ -100,7 +102,7 @@ pub fn look_count(
     position: usize,
 ) -> Outcome
     ensures { (coded result.answer
-        ≡ look_count pages_per_file file position (device_at_entry media sizes frames cache))
+        ≡ look_count pages_per_file file position (device_at_entry media.now sizes.now frames.now cache))
         × (result.cache ≡ cache) }
 {
     let state = bytes_of(cache);
@@ -118,8 +120,8 @@ pub fn write(
     position: usize,
     bytes: &[u8],
 ) -> Outcome
-    ensures { give (coded result.answer) (device_at_exit media sizes frames result.cache)
-        ≡ write pages_per_file file position bytes.now (device_at_entry media sizes frames cache) }
+    ensures { give (coded result.answer) (device_at_exit media.now sizes.now frames.new result.cache)
+        ≡ write pages_per_file file position bytes.now (device_at_entry media.now sizes.now frames.old cache) }
 {
     let mut state = bytes_of(cache);
     let answer = writing::write(media, sizes, frames, &mut state, file, position, bytes);
@@ -138,8 +140,8 @@ pub fn truncate(
     file: usize,
     n: usize,
 ) -> Outcome
-    ensures { give (coded result.answer) (device_at_exit media sizes frames result.cache)
-        ≡ truncate pages_per_file file n (device_at_entry media sizes frames cache) }
+    ensures { give (coded result.answer) (device_at_exit media.now sizes.now frames.new result.cache)
+        ≡ truncate pages_per_file file n (device_at_entry media.now sizes.now frames.old cache) }
 {
     let mut state = bytes_of(cache);
     let answer = writing::truncate(media, sizes, frames, &mut state, file, n);
@@ -158,8 +160,8 @@ pub fn sync(
     file: usize,
     budget: usize,
 ) -> Outcome
-    ensures { give (coded result.answer) (device_at_exit media sizes frames result.cache)
-        ≡ sync pages_per_file file budget (device_at_entry media sizes frames cache) }
+    ensures { give (coded result.answer) (device_at_exit media.new sizes.new frames.now result.cache)
+        ≡ sync pages_per_file file budget (device_at_entry media.old sizes.old frames.now cache) }
 {
     let mut state = bytes_of(cache);
     let answer = writeback::sync(media, sizes, frames, &mut state, file, budget);
@@ -171,8 +173,8 @@ pub fn sync(
 
 // Mount (writeback). The state that comes in is not looked at.
 pub fn mount(media: &mut [u8], sizes: &mut [u32], cache: CacheState, budget: usize) -> Outcome
-    ensures { (frames : List ℕ) → give (coded result.answer) (device_of (media_at_exit media sizes) frames result.cache)
-        ≡ mount pages_per_file budget (device_of (media_at_entry media sizes) frames cache) }
+    ensures { (frames : List ℕ) → give (coded result.answer) (device_of (media_at_exit media.new sizes.new) frames result.cache)
+        ≡ mount pages_per_file budget (device_of (media_at_entry media.old sizes.old) frames cache) }
 {
     let mut state = bytes_of(cache);
     let answer = writeback::mount(media, sizes, &mut state, budget);
@@ -184,8 +186,8 @@ pub fn mount(media: &mut [u8], sizes: &mut [u32], cache: CacheState, budget: usi
 
 // Format (writeback). The state that comes in is not looked at.
 pub fn format(media: &mut [u8], sizes: &mut [u32], cache: CacheState, budget: usize) -> Outcome
-    ensures { (frames : List ℕ) → give (coded result.answer) (device_of (media_at_exit media sizes) frames result.cache)
-        ≡ format pages_per_file budget (device_of (media_at_entry media sizes) frames cache) }
+    ensures { (frames : List ℕ) → give (coded result.answer) (device_of (media_at_exit media.new sizes.new) frames result.cache)
+        ≡ format pages_per_file budget (device_of (media_at_entry media.old sizes.old) frames cache) }
 {
     let mut state = bytes_of(cache);
     let answer = writeback::format(media, sizes, &mut state, budget);

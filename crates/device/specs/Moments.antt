@@ -5,7 +5,7 @@ use Rattle.device.specs.declared.CacheState.{CacheState}
 use Rattle.device.specs.Device.{Device, device_of}
 
 abbrev pub device_at_entry : Slice → Slice → Slice → CacheState → Device
-device_at_entry media sizes frames cache = device_of (media_at_entry media sizes) frames.entry.now cache
+device_at_entry media sizes frames cache = device_of (media_at_entry media sizes) frames cache
 
 abbrev pub device_at_exit : Slice → Slice → Slice → CacheState → Device
-device_at_exit media sizes frames cache = device_of (media_at_exit media sizes) frames.exit.now cache
+device_at_exit media sizes frames cache = device_of (media_at_exit media sizes) frames cache

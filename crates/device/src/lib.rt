@@ -2,6 +2,8 @@
 // its calls as definitions, and proofs/ what follows from them.
 //
 // The page frames are borrowed beside the cache state, SLOTS × 256 bytes; slot k has the bytes from 256 × k on.
+#![tactic(auto)]
+
 ghost use Rattle.std.specs.Prelude.{◌≡◌};
 ghost use Rattle.device.specs.Device.{free_slot, no_slots, down_state};
 
@@ -11,7 +13,7 @@ use answer::Answer;
 pub const SLOTS: usize = 24;
 
 // A slot of the cache: used or free, and the page that it holds. A free slot carries file 0 and page 0.
-#[derive(Drop)]
+#[derive(Clone, Copy)]
 pub struct Slot {
     // 1 where it is used, 0 where it is free.
     pub used: u8,
@@ -20,7 +22,7 @@ pub struct Slot {
 }
 
 // The cache state (document 01: the books).
-#[derive(Drop)]
+#[derive(Clone, Copy)]
 pub struct CacheState {
     // 1 where the device is mounted, 0 where it is down (the up mark).
     pub mounted: u8,
@@ -32,7 +34,7 @@ pub struct CacheState {
 }
 
 // The three sizes of one file.
-#[derive(Drop)]
+#[derive(Clone, Copy)]
 pub struct FileSizes {
     pub logical: u32,
     pub floor: u32,
@@ -40,7 +42,7 @@ pub struct FileSizes {
 }
 
 // Where a part lies: in the page frames or in the media, from an index on, so many bytes.
-#[derive(Drop)]
+#[derive(Clone, Copy)]
 pub struct Span {
     pub cached: bool,
     pub from: usize,
@@ -48,7 +50,7 @@ pub struct Span {
 }
 
 // What a call returns: its answer, beside the cache state that it leaves.
-#[derive(Drop)]
+#[derive(Clone, Copy)]
 pub struct Outcome {
     pub answer: Answer,
     pub cache: CacheState,

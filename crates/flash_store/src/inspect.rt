@@ -18,7 +18,7 @@ const BLOCKS: usize = 18;
 
 // Of a block: how many of its records are programmed, the first and the last number, and whether its records are in their limits,
 // rise, and have no blank among them.
-#[derive(Drop)]
+#[derive(Clone, Copy)]
 pub struct Block {
     pub used: usize,
     pub first: usize,
@@ -27,7 +27,7 @@ pub struct Block {
 }
 
 // Whether the first four tests hold, and where they do the cursor of the log.
-#[derive(Drop)]
+#[derive(Clone, Copy)]
 pub struct Inspected {
     pub sound: bool,
     pub cursor: Cursor,

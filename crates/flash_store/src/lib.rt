@@ -1,4 +1,6 @@
 // The calls on a device with an append-only part.
+#![tactic(auto)]
+
 mod cursor;
 mod guard;
 mod index;

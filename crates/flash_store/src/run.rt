@@ -307,7 +307,7 @@ fn exhausts(
 }
 
 // How a plan ended: it needs a number above the greatest, and nothing was done; or the steps that it needed.
-#[derive(Drop)]
+#[derive(Clone, Copy)]
 pub struct Outcome {
     pub exhausted: bool,
     pub needed: usize,

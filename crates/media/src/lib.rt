@@ -2,6 +2,8 @@
 //
 // It knows three writes, PAGE, SIZE and TRIM, and nothing of cached pages. A write that is done counts 0. A refusal changes
 // nothing.
+#![tactic(auto)]
+
 ghost use Rattle.std.specs.Prelude.{◌≡◌, ◌+◌, ◌-◌, ◌^◌, ◌≤◌, ◌<◌, length};
 ghost use Rattle.answer.specs.Coded.{coded};
 ghost use Rattle.memory.specs.Bytes.{zeros, overwrite};
@@ -35,16 +37,16 @@ pub fn write_page(page: &mut [u8], bytes: &[u8]) -> Answer
 
 // SIZE: the stored size of one file becomes n. Of the media's bytes only the length is used.
 pub fn write_size(media: &[u8], sizes: &mut [u32], file: usize, n: usize) -> Answer
-    ensures { (coded result ≡ size_answer pages_per_file (media_at_entry media sizes) file n)
-        × (media_at_exit media sizes ≡ size_after pages_per_file (media_at_entry media sizes) file n) }
+    ensures { (coded result ≡ size_answer pages_per_file (media_at_entry media.now sizes.old) file n)
+        × (media_at_exit media.now sizes.new ≡ size_after pages_per_file (media_at_entry media.now sizes.old) file n) }
 {
     write_size_in(media, sizes, file, n, PAGES_PER_FILE)
 }
 
 // TRIM: the bytes of one file from n on become 0, and its stored size becomes n.
 pub fn trim(media: &mut [u8], sizes: &mut [u32], file: usize, n: usize) -> Answer
-    ensures { (coded result ≡ trim_answer pages_per_file (media_at_entry media sizes) file n)
-        × (media_at_exit media sizes ≡ trim_after pages_per_file (media_at_entry media sizes) file n) }
+    ensures { (coded result ≡ trim_answer pages_per_file (media_at_entry media.old sizes.old) file n)
+        × (media_at_exit media.new sizes.new ≡ trim_after pages_per_file (media_at_entry media.old sizes.old) file n) }
 {
     trim_in(media, sizes, file, n, PAGES_PER_FILE)
 }
@@ -52,8 +54,8 @@ pub fn trim(media: &mut [u8], sizes: &mut [u32], file: usize, n: usize) -> Answe
 // SIZE and TRIM over the number of pages in a file. The greatest file size fits a stored size.
 fn write_size_in(media: &[u8], sizes: &mut [u32], file: usize, n: usize, pages: usize) -> Answer
     requires { file_bytes pages < 2 ^ 32 }
-    ensures { (coded result ≡ size_answer pages (media_at_entry media sizes) file n)
-        × (media_at_exit media sizes ≡ size_after pages (media_at_entry media sizes) file n) }
+    ensures { (coded result ≡ size_answer pages (media_at_entry media.now sizes.old) file n)
+        × (media_at_exit media.now sizes.new ≡ size_after pages (media_at_entry media.now sizes.old) file n) }
 {
     let admitted = admit(media, sizes, file, n, pages);
     match admitted {
@@ -67,8 +69,8 @@ fn write_size_in(media: &[u8], sizes: &mut [u32], file: usize, n: usize, pages: 
 
 fn trim_in(media: &mut [u8], sizes: &mut [u32], file: usize, n: usize, pages: usize) -> Answer
     requires { file_bytes pages < 2 ^ 32 }
-    ensures { (coded result ≡ trim_answer pages (media_at_entry media sizes) file n)
-        × (media_at_exit media sizes ≡ trim_after pages (media_at_entry media sizes) file n) }
+    ensures { (coded result ≡ trim_answer pages (media_at_entry media.old sizes.old) file n)
+        × (media_at_exit media.new sizes.new ≡ trim_after pages (media_at_entry media.old sizes.old) file n) }
 {
     let admitted = admit(media, sizes, file, n, pages);
     match admitted {
@@ -99,7 +101,7 @@ fn clear_from(media: &mut [u8], file: usize, n: usize, pages: usize)
 // The refusals of SIZE, which TRIM shares, in their order.
 fn admit(media: &[u8], sizes: &[u32], file: usize, n: usize, pages: usize) -> Answer
     requires { file_bytes pages < 2 ^ 32 }
-    ensures { coded result ≡ size_answer pages (media_at_entry media sizes) file n }
+    ensures { coded result ≡ size_answer pages (media_at_entry media.now sizes.now) file n }
 {
     let file_len = PAGE_BYTES * pages;
     if media.len() != FILES * file_len {

@@ -1,4 +1,6 @@
 // Block moves on byte slices of any lengths.
+#![tactic(auto)]
+
 ghost use Rattle.std.specs.Prelude.{◌≡◌, ◌≤◌, length, take};
 ghost use Rattle.memory.specs.Bytes.{zeros, overwrite};
 

@@ -1,4 +1,6 @@
 // The smaller and the larger of two numbers, their difference, and a byte as a number.
+#![tactic(auto)]
+
 ghost use Rattle.std.specs.Prelude.{◌≡◌, ◌-◌, min, max};
 
 pub fn min(a: usize, b: usize) -> usize

@@ -1,4 +1,6 @@
 // Read and look, on the bytes of the cache state: the calls that change nothing on the device.
+#![tactic(auto)]
+
 ghost use Rattle.std.specs.Prelude.{◌≡◌, List, ◌+◌, ◌*◌, ◌≤◌, ◌<◌, ℕ, ◌/◌, ◌%◌, length, get_or, leb};
 ghost use Rattle.answer.specs.Coded.{coded, done};
 ghost use Rattle.answer.specs.Admission.{first_refusal};
@@ -30,7 +32,7 @@ fn admit_at(
     position: usize,
     table: &mut [u8; admission::TABLE],
 ) -> Answer
-    ensures { (coded result ≡ first_refusal (borrowed_tests pages_per_file (borrowed_at_entry media sizes frames state) file
+    ensures { (coded result ≡ first_refusal (borrowed_tests pages_per_file (borrowed_at_entry media.now sizes.now frames.now state.now) file
         (leb position (file_bytes pages_per_file))) (done 0))
         × (table.new ≡ table_after (coded result) (decode state.now).slots) }
 {
@@ -141,7 +143,7 @@ pub fn read(
     buffer: &mut [u8],
 ) -> Answer
     ensures { give (coded result) buffer.new
-        ≡ read_bytes pages_per_file file position buffer.old (borrowed_at_entry media sizes frames state) }
+        ≡ read_bytes pages_per_file file position buffer.old (borrowed_at_entry media.now sizes.now frames.now state.now) }
 {
     let mut table = [0u8; admission::TABLE];
     let admitted = admit_at(media, sizes, frames, state, file, position, &mut table);
@@ -178,7 +180,7 @@ pub fn look_span(
     file: usize,
     position: usize,
 ) -> Span
-    ensures { result ≡ look_span_bytes pages_per_file file position (borrowed_at_entry media sizes frames state) }
+    ensures { result ≡ look_span_bytes pages_per_file file position (borrowed_at_entry media.now sizes.now frames.now state.now) }
 {
     let mut table = [0u8; admission::TABLE];
     let admitted = admit_at(media, sizes, frames, state, file, position, &mut table);
@@ -218,7 +220,7 @@ pub fn look_count(
     file: usize,
     position: usize,
 ) -> Answer
-    ensures { coded result ≡ look_count_bytes pages_per_file file position (borrowed_at_entry media sizes frames state) }
+    ensures { coded result ≡ look_count_bytes pages_per_file file position (borrowed_at_entry media.now sizes.now frames.now state.now) }
 {
     let mut table = [0u8; admission::TABLE];
     let admitted = admit_at(media, sizes, frames, state, file, position, &mut table);

@@ -1,4 +1,6 @@
 // Tests over a list, as definitions, and what the turns of a loop over one show. In code: whether bytes are all 0.
+#![tactic(auto)]
+
 ghost use Rattle.std.specs.Prelude.{◌≡◌, eqb};
 ghost use Rattle.scan.specs.Scan.{every};
 

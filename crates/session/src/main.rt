@@ -1,6 +1,8 @@
 // The session program: reads lines from standard input, and prints a header and one line for each line of the input.
 //
 // It reads its input in blocks and keeps one block, one line and one block's output, whatever the length of the input or of a line.
+#![tactic(auto)]
+
 ghost use Rattle.std.specs.Prelude.{◌≡◌, ◌*◌, ◌≤◌, length};
 ghost use Rattle.media.specs.Geometry.{pages_per_file};
 ghost use Rattle.media.specs.Write.{media_of};
@@ -17,7 +19,7 @@ use session_run::Session;
 const BLOCK_BYTES: usize = 1024;
 
 // The session after some input, and how many bytes of the output it printed.
-#[derive(Drop)]
+#[derive(Clone, Copy)]
 struct Printed {
     session: Session,
     count: usize,
@@ -34,8 +36,8 @@ fn run_block(
 ) -> Printed
     requires { reply_bytes * length input.now ≤ length output.old }
     ensures { Stepped (length output.old)
-        (feed pages_per_file input.now (device_at_entry media sizes frames session.cache) session.line)
-        (device_at_exit media sizes frames result.session.cache) result.session.line
+        (feed pages_per_file input.now (device_at_entry media.old sizes.old frames.old session.cache) session.line)
+        (device_at_exit media.new sizes.new frames.new result.session.cache) result.session.line
         output.old output.new result.count }
 {
     let fed = session_run::feed(media, sizes, frames, session, input, output);
@@ -57,8 +59,8 @@ fn run_end(
 ) -> Printed
     requires { reply_bytes ≤ length output.old }
     ensures { Stepped (length output.old)
-        (feed pages_per_file (last_end session.line) (device_at_entry media sizes frames session.cache) session.line)
-        (device_at_exit media sizes frames result.session.cache) result.session.line
+        (feed pages_per_file (last_end session.line) (device_at_entry media.old sizes.old frames.old session.cache) session.line)
+        (device_at_exit media.new sizes.new frames.new result.session.cache) result.session.line
         output.old output.new result.count }
 {
     let fed = session_run::finish(media, sizes, frames, session, output);
@@ -80,7 +82,7 @@ fn write_out(text: &[u8]) -> bool {
 }
 
 // The session after a block of input, and whether to go on.
-#[derive(Drop)]
+#[derive(Clone, Copy)]
 struct Turn {
     session: Session,
     more: bool,
@@ -95,6 +97,8 @@ fn serve_block(
     input: &mut [u8],
     output: &mut [u8],
 ) -> Turn
+    requires { (reply_bytes * length input.old ≤ length output.old) × (reply_bytes ≤ length output.old) }
+ -> Turn
     requires { (reply_bytes * length input.old ≤ length output.old) × (reply_bytes ≤ length output.old) }
 {
     let got = libc::read(STDIN_FILENO, input);

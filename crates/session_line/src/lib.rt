@@ -1,4 +1,6 @@
 // One line of a session: what it asks for, and the line that is printed for the answer.
+#![tactic(auto)]
+
 ghost use Rattle.std.specs.Prelude.{◌≡◌, true, ◌+◌, ◌*◌, ◌≤◌, ◌<◌, length, take, drop};
 ghost use Rattle.answer.specs.Coded.{coded};
 ghost use Rattle.memory.specs.Bytes.{overwrite};
@@ -12,7 +14,7 @@ ghost use Rattle.session_line.specs.Request.{spelled};
 use answer::{Answer, Refusal};
 
 // What a line asks for.
-#[derive(Drop)]
+#[derive(Clone, Copy)]
 pub enum Request {
     // The budget.
     Format(usize),
@@ -96,7 +98,7 @@ fn first_comma(text: &[u8]) -> usize
 }
 
 // The limits of a form, at most four; none where no form has this letter.
-#[derive(Drop)]
+#[derive(Clone, Copy)]
 struct Limits {
     count: usize,
     limits: [usize; 4],
@@ -148,7 +150,7 @@ fn limits_of(letter: u8) -> Limits
 }
 
 // The numbers of a line, where all of its fields after the letter are numbers within the limits, one for each.
-#[derive(Drop)]
+#[derive(Clone, Copy)]
 struct Found {
     fit: bool,
     values: [usize; 4],

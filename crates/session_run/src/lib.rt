@@ -2,6 +2,8 @@
 //
 // The media, the stored sizes and the page frames are borrowed; the cache state and the line that has not ended go in by value
 // and come back. Start with `start`, print `header`, hand each block to `feed`, and at the end of the input call `finish`.
+#![tactic(auto)]
+
 ghost use Rattle.std.specs.Prelude.{◌≡◌, true, false, cond, ◌≤◌, length, take, replicate};
 ghost use Rattle.answer.specs.Coded.{coded};
 ghost use Rattle.memory.specs.Bytes.{zeros};
@@ -30,21 +32,21 @@ pub const REPLY_BYTES: usize = 70;
 pub const KEPT_BYTES: usize = 41;
 
 // The line that has not ended yet.
-#[derive(Drop)]
+#[derive(Clone, Copy)]
 pub struct PartialLine {
     pub bytes: [u8; KEPT_BYTES],
     pub len: usize,
 }
 
 // A session between two blocks of its input.
-#[derive(Drop)]
+#[derive(Clone, Copy)]
 pub struct Session {
     pub cache: CacheState,
     pub line: PartialLine,
 }
 
 // What a block of input gives: as count the bytes that it printed, and the session after it.
-#[derive(Drop)]
+#[derive(Clone, Copy)]
 pub struct SessionOutcome {
     pub answer: Answer,
     pub session: Session,
@@ -53,7 +55,7 @@ pub struct SessionOutcome {
 // ---- one line
 
 // What the call of a line gave. A read prints the first of `bytes`, as many as it counts; other calls print none.
-#[derive(Drop)]
+#[derive(Clone, Copy)]
 struct Call {
     answer: Answer,
     cache: CacheState,
@@ -100,8 +102,8 @@ fn write_bytes(
     byte: u8,
 ) -> Outcome
     requires { count ≤ greatest_write }
-    ensures { give (coded result.answer) (device_at_exit media sizes frames result.cache)
-        ≡ write pages_per_file file position (replicate count byte) (device_at_entry media sizes frames cache) }
+    ensures { give (coded result.answer) (device_at_exit media.now sizes.now frames.new result.cache)
+        ≡ write pages_per_file file position (replicate count byte) (device_at_entry media.now sizes.now frames.old cache) }
 {
     let bytes = write_buffer(byte);
     cache::write(media, sizes, frames, cache, file, position, &bytes[..count])
@@ -119,7 +121,7 @@ fn read_bytes(
 ) -> Call
     requires { count ≤ greatest_read }
     ensures { (give (coded result.answer) (take count result.bytes)
-        ≡ read pages_per_file file position (zeros count) (device_at_entry media sizes frames cache))
+        ≡ read pages_per_file file position (zeros count) (device_at_entry media.now sizes.now frames.now cache))
         × (result.cache ≡ cache) × (result.reads ≡ true) }
 {
     let mut bytes = read_buffer();
@@ -151,8 +153,8 @@ fn execute(
     request: Request,
 ) -> Call
     requires { Within request }
-    ensures { Executed (run pages_per_file (spelled request) (device_at_entry media sizes frames cache))
-        (coded result.answer) result.reads result.bytes (device_at_exit media sizes frames result.cache) }
+    ensures { Executed (run pages_per_file (spelled request) (device_at_entry media.old sizes.old frames.old cache))
+        (coded result.answer) result.reads result.bytes (device_at_exit media.new sizes.new frames.new result.cache) }
 {
     match request {
         Request::Format(budget) => without_bytes(cache::format(media, sizes, cache, budget)),
@@ -196,8 +198,8 @@ pub fn run_line(
     line: &[u8],
     output: &mut [u8],
 ) -> Outcome
-    ensures { (give (coded result.answer) (device_at_exit media sizes frames result.cache, output.new)
-        ≡ run_into pages_per_file line.now (device_at_entry media sizes frames cache, output.old))
+    ensures { (give (coded result.answer) (device_at_exit media.new sizes.new frames.new result.cache, output.new)
+        ≡ run_into pages_per_file line.now (device_at_entry media.old sizes.old frames.old cache, output.old))
         × ((coded result.answer).count ≤ reply_bytes) }
 {
     if output.len() == REPLY_BYTES {
@@ -258,7 +260,7 @@ fn push(line: PartialLine, b: u8) -> PartialLine
 }
 
 // What a line that has ended gives: the cache state after it, and how many bytes it printed.
-#[derive(Drop)]
+#[derive(Clone, Copy)]
 struct Step {
     cache: CacheState,
     count: usize,
@@ -273,8 +275,8 @@ fn end_line(
     output: &mut [u8],
 ) -> Step
     requires { length output.old ≡ reply_bytes }
-    ensures { Stepped reply_bytes (feed_byte pages_per_file LF (device_at_entry media sizes frames cache) line)
-        (device_at_exit media sizes frames result.cache) (restarted line)
+    ensures { Stepped reply_bytes (feed_byte pages_per_file LF (device_at_entry media.old sizes.old frames.old cache) line)
+        (device_at_exit media.new sizes.new frames.new result.cache) (restarted line)
         output.old output.new result.count }
 {
     let bytes = line.bytes;
@@ -298,9 +300,9 @@ pub fn feed(
     input: &[u8],
     output: &mut [u8],
 ) -> SessionOutcome
-    ensures { (give (coded result.answer) (state_of (device_at_exit media sizes frames result.session.cache)
+    ensures { (give (coded result.answer) (state_of (device_at_exit media.new sizes.new frames.new result.session.cache)
         result.session.line output.new)
-        ≡ feed_block pages_per_file input.now (state_of (device_at_entry media sizes frames session.cache)
+        ≡ feed_block pages_per_file input.now (state_of (device_at_entry media.old sizes.old frames.old session.cache)
         session.line output.old))
         × ((coded result.answer).count ≤ length output.old) }
 {
@@ -343,9 +345,9 @@ pub fn finish(
     session: Session,
     output: &mut [u8],
 ) -> SessionOutcome
-    ensures { (give (coded result.answer) (state_of (device_at_exit media sizes frames result.session.cache)
+    ensures { (give (coded result.answer) (state_of (device_at_exit media.new sizes.new frames.new result.session.cache)
         result.session.line output.new)
-        ≡ feed_block pages_per_file (last_end session.line) (state_of (device_at_entry media sizes frames session.cache)
+        ≡ feed_block pages_per_file (last_end session.line) (state_of (device_at_entry media.old sizes.old frames.old session.cache)
         session.line output.old))
         × ((coded result.answer).count ≤ length output.old) }
 {

@@ -7,14 +7,14 @@ use Rattle.state_bytes.specs.Encoding.{decode}
 use Rattle.state_bytes.specs.InPlace.{Borrowed, borrowed}
 
 abbrev pub borrowed_at_entry : Slice → Slice → Slice → Slice → Borrowed
-borrowed_at_entry media sizes frames state = borrowed (media_at_entry media sizes) frames.entry.now state.entry.now
+borrowed_at_entry media sizes frames state = borrowed (media_at_entry media sizes) frames state
 
 abbrev pub borrowed_at_exit : Slice → Slice → Slice → Slice → Borrowed
-borrowed_at_exit media sizes frames state = borrowed (media_at_exit media sizes) frames.exit.now state.exit.now
+borrowed_at_exit media sizes frames state = borrowed (media_at_exit media sizes) frames state
 
 -- the device that the bytes say, beside stored sizes that the call does not borrow
 abbrev pub decoded_at_entry : Slice → List ℕ → Slice → Slice → Device
-decoded_at_entry media stored frames state = device_of (media_of media.entry.now stored) frames.entry.now (decode state.entry.now)
+decoded_at_entry media stored frames state = device_of (media_of media stored) frames (decode state)
 
 abbrev pub decoded_at_exit : Slice → List ℕ → Slice → Slice → Device
-decoded_at_exit media stored frames state = device_of (media_of media.exit.now stored) frames.exit.now (decode state.exit.now)
+decoded_at_exit media stored frames state = device_of (media_of media stored) frames (decode state)

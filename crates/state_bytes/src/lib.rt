@@ -2,6 +2,8 @@
 //
 // specs/Encoding.antt has the layout. `encode` and `decode` are inverse: every state has its bytes, and every STATE_BYTES bytes are those
 // of a state. What is read in place is what the decoded state has.
+#![tactic(auto)]
+
 ghost use Rattle.std.specs.Prelude.{◌≡◌, ◌+◌, ◌*◌, ◌≤◌, ◌<◌, length, get_or};
 ghost use Rattle.memory.specs.Bytes.{overwrite};
 ghost use Rattle.media.specs.Geometry.{files};

@@ -1,6 +1,8 @@
 // Trip lists: a line of text for each trip, in the order of their minutes. A reader and a cursor.
 //
 // Nothing here knows of the store: a list is bytes, wherever they come from.
+#![tactic(auto)]
+
 ghost use Rattle.std.specs.Prelude.{◌≡◌, ◌≤◌, ◌&&◌, length, if◌then◌else◌, ◌==◌, nat_le};
 ghost use Rattle.answer.specs.Coded.{coded};
 ghost use Rattle.text.specs.Marks.{comma};
@@ -21,7 +23,7 @@ const MAX_NUMBER: usize = 4294967295;
 // ---- the fields of a line
 
 // Digits in front of a text. Where they are a number with a comma after it: its value, and how many they are.
-#[derive(Drop)]
+#[derive(Clone, Copy)]
 struct Number {
     fits: bool,
     value: usize,
@@ -83,7 +85,7 @@ fn is_driver_byte(c: u8) -> bool
 }
 
 // Letters and digits in front of a text. Whether they are a driver with LF after it, and how many they are.
-#[derive(Drop)]
+#[derive(Clone, Copy)]
 struct Driver {
     fits: bool,
     letters: usize,
@@ -124,7 +126,7 @@ fn driver_in_front(text: &[u8]) -> Driver
 // ---- one line
 
 // The line in front of a text. The other fields tell of it where it has the form.
-#[derive(Drop)]
+#[derive(Clone, Copy)]
 pub struct Line {
     pub fits: bool,
     pub metres: usize,
@@ -174,7 +176,7 @@ fn line_in_front(text: &[u8]) -> Line
 }
 
 // The line that starts at an index, or its refusal.
-#[derive(Drop)]
+#[derive(Clone, Copy)]
 pub enum Step {
     At(Line),
     Refused(Refusal),
@@ -201,7 +203,7 @@ pub fn line_at(list: &[u8], at: usize, least: usize) -> Step
 // ---- the cursor
 
 // A trip of a list. Its driver lies in the list: from this index on, so many bytes.
-#[derive(Drop)]
+#[derive(Clone, Copy)]
 pub struct Trip {
     pub minute: u32,
     pub metres: u32,
@@ -210,7 +212,7 @@ pub struct Trip {
 }
 
 // What the reader and the cursor give.
-#[derive(Drop)]
+#[derive(Clone, Copy)]
 pub enum Lookup {
     // A count, and a trip.
     Found(usize, Trip),
@@ -252,7 +254,7 @@ pub fn next_trip(list: &[u8], at: usize, least: usize) -> Lookup
 // ---- the whole list
 
 // What one pass over a list finds: the answer for it, and where that is done the trip at the place, if there is one.
-#[derive(Drop)]
+#[derive(Clone, Copy)]
 struct Findings {
     answer: Answer,
     trip: Trip,

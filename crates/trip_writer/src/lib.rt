@@ -1,4 +1,6 @@
 // The writer of trip lists: a list in its one spelling, and two lists joined into one.
+#![tactic(auto)]
+
 ghost use Rattle.std.specs.Prelude.{◌≡◌, cond, ◌&&◌, ◌++◌, ◌+◌, ◌-◌, ◌*◌, ◌≤◌, ◌<◌, min, length, take, drop};
 ghost use Rattle.answer.specs.Coded.{coded};
 ghost use Rattle.answer.specs.Admission.{if_done};
@@ -43,7 +45,7 @@ fn leading_zeros(text: &[u8], digits: usize) -> usize
 }
 
 // Where in the list the digits begin that a spelling keeps, of the minute and of the metres.
-#[derive(Drop)]
+#[derive(Clone, Copy)]
 struct Kept {
     minute: usize,
     metres: usize,
@@ -158,7 +160,7 @@ fn put_within(list: &[u8], at: usize, line: Line, output: &mut [u8], end: usize)
 }
 
 // A line of a list, its index, and the index in the output where its spelling would begin.
-#[derive(Drop)]
+#[derive(Clone, Copy)]
 struct Place {
     at: usize,
     line: Line,
@@ -217,7 +219,7 @@ fn same_rest(first: &[u8], i: usize, a: Line, second: &[u8], j: usize, b: Line) 
 
 // How far two lists are joined: the index of the next line of each, and that line; how many bytes the joined list has up to there;
 // whether the lists agree up to there.
-#[derive(Drop)]
+#[derive(Clone, Copy)]
 struct Stage {
     i: usize,
     a: Line,

@@ -1,4 +1,6 @@
 // The runs of digits, of zeros and of letters in front of a text, eight bytes at once.
+#![tactic(auto)]
+
 ghost use Rattle.std.specs.Prelude.{◌≡◌, ◌/◌, ◌≤◌, map, length, take, bit_and};
 ghost use Rattle.std.specs.Int.Count.{count_trailing_zeros};
 ghost use Rattle.text.specs.Ascii.{is_capital_or_digit};
@@ -84,7 +86,7 @@ fn gather(text: &[u8]) -> u64
 }
 
 // The digits in front of the first eight bytes of a text: how many they are, and their value. None of a text that has fewer bytes.
-#[derive(Drop)]
+#[derive(Clone, Copy)]
 pub struct Digits {
     pub count: usize,
     pub value: usize,

@@ -3,6 +3,8 @@
 // Each carries out a plan of media writes. Where the budget pays for all of them, it is done with their number as count. Where it
 // does not, as many first writes are done as it pays for, the answer is CUT, and the state that is left is down. The state is borrowed as
 // bytes. Of these, mount and format look at their number only.
+#![tactic(auto)]
+
 ghost use Rattle.std.specs.Prelude.{◌≡◌, cond, ◌&&◌, List, ℕ, ◌+◌, ◌≤◌, ◌<◌, ◌^◌, length, get_or, eqb, ltb};
 ghost use Rattle.answer.specs.Coded.{coded, CUT};
 ghost use Rattle.memory.specs.Bytes.{part};
@@ -59,8 +61,8 @@ fn trim_if(
 ) -> usize
     requires { (length media.old ≡ media_bytes pages_per_file) × (length sizes.old ≡ files) × (file < files)
         × (n ≤ get_or sizes.old file 0) × (n ≤ file_bytes pages_per_file) × (needed < 2 ^ 32) }
-    ensures { Spent pages_per_file budget (media_at_entry media sizes) needed result
-        (write_if wanted (trim file n)) (media_at_exit media sizes) }
+    ensures { Spent pages_per_file budget (media_at_entry media.old sizes.old) needed result
+        (write_if wanted (trim file n)) (media_at_exit media.new sizes.new) }
 {
     if is_made(wanted, needed, budget) {
         media::trim(media, sizes, file, n);
@@ -151,8 +153,8 @@ fn size_if(
 ) -> usize
     requires { (length media.now ≡ media_bytes pages_per_file) × (length sizes.old ≡ files) × (file < files)
         × (n ≤ file_bytes pages_per_file) × (needed < 2 ^ 32) }
-    ensures { Spent pages_per_file budget (media_at_entry media sizes) needed result
-        (write_if wanted (size file n)) (media_at_exit media sizes) }
+    ensures { Spent pages_per_file budget (media_at_entry media.now sizes.old) needed result
+        (write_if wanted (size file n)) (media_at_exit media.now sizes.new) }
 {
     if is_made(wanted, needed, budget) {
         media::write_size(media, sizes, file, n);
@@ -177,9 +179,9 @@ fn sync_writes(
         × (get_or (decode state.now).floor file 0 ≤ get_or (decode state.now).logical file 0)
         × (get_or (decode state.now).logical file 0 ≤ file_bytes pages_per_file)
         × (table.now ≡ slot_table pages_per_file (decode state.now).slots) }
-    ensures { Spent pages_per_file budget (media_at_entry media sizes) 0 result
-        (sync_plan pages_per_file (device_at_entry media sizes frames (decode state.now)) file)
-        (media_at_exit media sizes) }
+    ensures { Spent pages_per_file budget (media_at_entry media.old sizes.old) 0 result
+        (sync_plan pages_per_file (device_at_entry media.old sizes.old frames.now (decode state.now)) file)
+        (media_at_exit media.new sizes.new) }
 {
     let logical = state_bytes::logical_at(state, file) as usize;
     let floor = state_bytes::floor_at(state, file) as usize;
@@ -219,8 +221,8 @@ pub fn sync(
     file: usize,
     budget: usize,
 ) -> Answer
-    ensures { give (coded result) (borrowed_at_exit media sizes frames state)
-        ≡ on_bytes (sync pages_per_file file budget) (borrowed_at_entry media sizes frames state) }
+    ensures { give (coded result) (borrowed_at_exit media.new sizes.new frames.now state.new)
+        ≡ on_bytes (sync pages_per_file file budget) (borrowed_at_entry media.old sizes.old frames.now state.old) }
 {
     let mut table = [0u8; admission::TABLE];
     let admitted = admission::admit(
@@ -275,7 +277,7 @@ fn nonzero_from(media: &[u8], file: usize, n: usize) -> bool
 fn needs_trim(media: &[u8], sizes: &[u32], file: usize, n: usize) -> bool
     requires { (length media.now ≡ media_bytes pages_per_file) × (length sizes.now ≡ files) × (file < files)
         × (n ≤ file_bytes pages_per_file) }
-    ensures { result ≡ needs_trim pages_per_file (media_at_entry media sizes) file n }
+    ensures { result ≡ needs_trim pages_per_file (media_at_entry media.now sizes.now) file n }
 {
     let stored = sizes[file] as usize;
     if stored != n {
@@ -293,8 +295,8 @@ fn trim_files(
 ) -> usize
     requires { (length media.old ≡ media_bytes pages_per_file) × (length sizes.old ≡ files)
         × ((f : ℕ) → f < files → (get_or targets.now f 0 ≤ get_or sizes.old f 0) × (get_or targets.now f 0 ≤ file_bytes pages_per_file)) }
-    ensures { Spent pages_per_file budget (media_at_entry media sizes) 0 result
-        (trims_to pages_per_file (media_at_entry media sizes) targets.now) (media_at_exit media sizes) }
+    ensures { Spent pages_per_file budget (media_at_entry media.old sizes.old) 0 result
+        (trims_to pages_per_file (media_at_entry media.old sizes.old) targets.now) (media_at_exit media.new sizes.new) }
 {
     let mut needed = 0;
     let mut f = 0;
@@ -337,8 +339,8 @@ fn sizes_array(sizes: &[u32]) -> [u32; media::FILES]
 // Mount: brings the device up, with no page cached and the stored sizes. Bytes past a stored size are cleared first, by TRIM.
 // Of the state that comes in only the length is looked at.
 pub fn mount(media: &mut [u8], sizes: &mut [u32], state: &mut [u8], budget: usize) -> Answer
-    ensures { (frames : List ℕ) → give (coded result) (borrowed (media_at_exit media sizes) frames state.new)
-        ≡ on_bytes (mount pages_per_file budget) (borrowed (media_at_entry media sizes) frames state.old) }
+    ensures { (frames : List ℕ) → give (coded result) (borrowed (media_at_exit media.new sizes.new) frames state.new)
+        ≡ on_bytes (mount pages_per_file budget) (borrowed (media_at_entry media.old sizes.old) frames state.old) }
 {
     let admitted = admission::admit_mount(media.len(), sizes, state);
     match admitted {
@@ -354,8 +356,8 @@ pub fn mount(media: &mut [u8], sizes: &mut [u32], state: &mut [u8], budget: usiz
 // Format: empties all files, by TRIM to 0. The device is down after it, done or cut. Of the state that comes in only the length is
 // looked at.
 pub fn format(media: &mut [u8], sizes: &mut [u32], state: &mut [u8], budget: usize) -> Answer
-    ensures { (frames : List ℕ) → give (coded result) (borrowed (media_at_exit media sizes) frames state.new)
-        ≡ on_bytes (format pages_per_file budget) (borrowed (media_at_entry media sizes) frames state.old) }
+    ensures { (frames : List ℕ) → give (coded result) (borrowed (media_at_exit media.new sizes.new) frames state.new)
+        ≡ on_bytes (format pages_per_file budget) (borrowed (media_at_entry media.old sizes.old) frames state.old) }
 {
     let admitted = admission::admit_format(media.len(), sizes, state);
     match admitted {

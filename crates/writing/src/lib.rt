@@ -1,6 +1,8 @@
 // Write and truncate on the bytes of the cache state, and the truncate rule on the sizes of one file.
 //
 // What is written goes into cached pages, and the bytes of the state are changed in place; the media stays.
+#![tactic(auto)]
+
 ghost use Rattle.std.specs.Prelude.{◌≡◌, cond, List, [], map, ◌+◌, ◌≤◌, ◌<◌, ◌^◌, ℕ, ◌/◌, max, length, get_or, leb};
 ghost use Rattle.answer.specs.Coded.{coded};
 ghost use Rattle.memory.specs.Bytes.{part, overwrite};
@@ -88,8 +90,8 @@ fn cache_page(
     requires { (file_bytes pages < 2 ^ 16) × (length media.now ≡ media_bytes pages) × (length frames.old ≡ frames_bytes)
         × (file < files) × (page < pages)
         × (k < slot_count) × (k ≡ first_index is_free (decode state.old).slots) × (length state.old ≡ state_bytes) }
-    ensures { (stored : List ℕ) → decoded_at_exit media stored frames state
-        ≡ cache_page pages file page (decoded_at_entry media stored frames state) }
+    ensures { (stored : List ℕ) → decoded_at_exit media.now stored frames.new state.new
+        ≡ cache_page pages file page (decoded_at_entry media.now stored frames.old state.old) }
 {
     let floor = state_bytes::floor_at(state, file) as usize;
     let at = PAGE_BYTES * page;
@@ -122,9 +124,9 @@ fn put_page(
         × (offset + length bytes.now ≤ page_bytes) × (k ≡ first_index (holds file page) (decode state.old).slots)
         × (length state.old ≡ state_bytes) }
     ensures { (result ≡ has_slot (device_of (media_of [] []) [] (decode state.old)) file page)
-        × ((stored : List ℕ) → decoded_at_exit media stored frames state
-        ≡ cond result (put_page pages file page offset bytes.now (decoded_at_entry media stored frames state))
-        (decoded_at_entry media stored frames state)) }
+        × ((stored : List ℕ) → decoded_at_exit media.now stored frames.new state.new
+        ≡ cond result (put_page pages file page offset bytes.now (decoded_at_entry media.now stored frames.old state.old))
+        (decoded_at_entry media.now stored frames.old state.old)) }
 {
     if k < SLOTS {
         patch_frames(frames, PAGE_BYTES * k + offset, bytes);
@@ -153,8 +155,8 @@ fn put_pages(
     requires { (length media.now ≡ media_bytes pages_per_file) × (length frames.old ≡ frames_bytes) × (file < files)
         × (position + length bytes.now ≤ file_bytes pages_per_file)
         × (table.now ≡ slot_table pages_per_file (decode state.old).slots) × (length state.old ≡ state_bytes) }
-    ensures { (stored : List ℕ) → record { device = decoded_at_exit media stored frames state; count = result }
-        ≡ put_pages pages_per_file file pages_per_file position bytes.now (decoded_at_entry media stored frames state) }
+    ensures { (stored : List ℕ) → record { device = decoded_at_exit media.now stored frames.new state.new; count = result }
+        ≡ put_pages pages_per_file file pages_per_file position bytes.now (decoded_at_entry media.now stored frames.old state.old) }
 {
     let mut from = 0;
     while from < bytes.len() {
@@ -213,8 +215,8 @@ pub fn write(
     position: usize,
     bytes: &[u8],
 ) -> Answer
-    ensures { give (coded result) (borrowed_at_exit media sizes frames state)
-        ≡ on_bytes (write pages_per_file file position bytes.now) (borrowed_at_entry media sizes frames state) }
+    ensures { give (coded result) (borrowed_at_exit media.now sizes.now frames.new state.new)
+        ≡ on_bytes (write pages_per_file file position bytes.now) (borrowed_at_entry media.now sizes.now frames.old state.old) }
 {
     let in_range = sum_fits(position, bytes.len(), PAGE_BYTES * PAGES_PER_FILE);
     let mut table = [0u8; TABLE];
@@ -314,8 +316,8 @@ pub fn truncate(
     file: usize,
     n: usize,
 ) -> Answer
-    ensures { give (coded result) (borrowed_at_exit media sizes frames state)
-        ≡ on_bytes (truncate pages_per_file file n) (borrowed_at_entry media sizes frames state) }
+    ensures { give (coded result) (borrowed_at_exit media.now sizes.now frames.new state.new)
+        ≡ on_bytes (truncate pages_per_file file n) (borrowed_at_entry media.now sizes.now frames.old state.old) }
 {
     let greatest = PAGE_BYTES * PAGES_PER_FILE;
     let mut table = [0u8; TABLE];

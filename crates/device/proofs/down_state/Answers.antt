@@ -1,0 +1,5 @@
+-- `device::down_state` meets its contract: its slots are free ones.
+use Rattle.device.proofs.down_state.Goals as goal
+
+pub returns : goal.returns
+returns c = rw c.no_slots.ensures
