@@ -6,4 +6,4 @@ use Rattle.words.proofs.no_capital.Goals as goal
 
 pub returns : goal.returns
 unfolding no_capital
-returns c = ap₂ (λ (x y : ℕ). bit_or (bit_or c.args.word x) (bit_xor y (copies 128 8))) c.wrapping_add_u64-above.ensures c.wrapping_add_u64-below.ensures
+returns c = ap₂ (λ (x y : ℕ). bit_or (bit_or c.args.word x) (bit_xor y (copies 128 8))) c.wrapping_add_u64-above.ensures.value c.wrapping_add_u64-below.ensures.value

@@ -6,4 +6,4 @@ use Rattle.words.proofs.no_digit.Goals as goal
 
 pub returns : goal.returns
 unfolding no_digit
-returns c = ap (bit_or c.args.word) c.wrapping_add_u64.ensures
+returns c = ap (bit_or c.args.word) c.wrapping_add_u64.ensures.value

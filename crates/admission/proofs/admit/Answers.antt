@@ -1,0 +1,42 @@
+-- `admission::admit` meets its contract: a refusal of `admit_device` stands; or else `admit_state` decides.
+use mathlib.Core.Path.{refl, ◌∙◌}
+use mathlib.Core.List.{List, ◌++◌}
+use Prim.Native.Nat.{ℕ}
+use Rattle.answer.specs.Admission.{Test}
+use Rattle.answer.proofs.Admission.{then_refused, then_rest}
+use Rattle.media.specs.Geometry.{pages_per_file}
+use Rattle.media.specs.Write.{media_of}
+use Rattle.device.specs.Admission.{media_shape, frames_shape, sizes_fit, state_tests, device_tests}
+use Rattle.memory.specs.Bytes.{zeros}
+use lib.ListN.{length-replicate}
+use Rattle.state_bytes.specs.Encoding.{decode}
+use Rattle.state_bytes.specs.InPlace.{state_shape}
+use Rattle.state_bytes.proofs.OnBytes.{shape-passed}
+use Rattle.admission.proofs.Soundness.{table_refused}
+use Rattle.admission.proofs.admit.Goals as goal
+
+-- the tests of `admit_device`, and those after them
+abbrev first : goal.After-admit_device-admitted → List ℕ → List ℕ → List Test
+first c media frames = let a = c.before.before.before.args in state_shape a.state.now ++ device_tests pages_per_file (media_of media a.sizes.now) frames
+
+pub admit_state-requires : goal.admit_state-requires
+unfolding media_shape frames_shape sizes_fit
+admit_state-requires c =
+    let a = c.args in
+    (shape-passed a.state.now (device_tests pages_per_file (media_of (zeros a.media) a.sizes.now) (zeros a.frames)) _ _ refl
+    (c.admit_device-admitted.ensures (zeros a.media) (zeros a.frames) (length-replicate {A = ℕ} _ 0) (length-replicate {A = ℕ} _ 0)) c.in-Done.is).0
+
+pub returns-in-Refused : goal.returns-in-Refused
+unfolding state_shape
+returns-in-Refused c =
+    let rest : List Test = let a = c.args in state_tests pages_per_file a.sizes.now (decode a.state.now) a.file a.range in (
+      λ media frames e q. then_refused (first c media frames) rest _ (c.admit_device-admitted.ensures media frames e q) _ c.in-Refused.is,
+      c.none_cached.ensures ∙ table_refused c.in-Refused.refusal (decode c.args.state.now).slots,
+    )
+
+pub returns-in-Done : goal.returns-in-Done
+unfolding state_shape media_shape frames_shape sizes_fit
+returns-in-Done c =
+    let rest : List Test = let a = c.args in state_tests pages_per_file a.sizes.now (decode a.state.now) a.file a.range in
+    let e = c.admit_state.ensures in
+    (λ media frames p q. e.0 ∙ then_rest (first c media frames) rest _ (c.admit_device-admitted.ensures media frames p q) refl _ c.in-Done.is, e.1)
