@@ -15,9 +15,9 @@ use Rattle.state_bytes.proofs.OnBytes.{shape-passed}
 use Rattle.admission.proofs.Soundness.{table_refused}
 use Rattle.admission.proofs.admit.Goals as goal
 
--- the tests of `admit_device`, and those after them
-abbrev first : goal.After-admit_device-admitted → List ℕ → List ℕ → List Test
-first c media frames = let a = c.before.before.before.args in state_shape a.state.now ++ device_tests pages_per_file (media_of media a.sizes.now) frames
+-- the tests of `admit_device`
+abbrev first : List ℕ → List ℕ → List ℕ → List ℕ → List Test
+first state sizes media frames = state_shape state ++ device_tests pages_per_file (media_of media sizes) frames
 
 pub admit_state-requires : goal.admit_state-requires
 unfolding media_shape frames_shape sizes_fit
@@ -30,7 +30,7 @@ pub returns-in-Refused : goal.returns-in-Refused
 unfolding state_shape
 returns-in-Refused c =
     let rest : List Test = let a = c.args in state_tests pages_per_file a.sizes.now (decode a.state.now) a.file a.range in (
-      λ media frames e q. then_refused (first c media frames) rest _ (c.admit_device-admitted.ensures media frames e q) _ c.in-Refused.is,
+      λ media frames e q. then_refused (first c.args.state.now c.args.sizes.now media frames) rest _ (c.admit_device-admitted.ensures media frames e q) _ c.in-Refused.is,
       c.none_cached.ensures ∙ table_refused c.in-Refused.refusal (decode c.args.state.now).slots,
     )
 
@@ -39,4 +39,4 @@ unfolding state_shape media_shape frames_shape sizes_fit
 returns-in-Done c =
     let rest : List Test = let a = c.args in state_tests pages_per_file a.sizes.now (decode a.state.now) a.file a.range in
     let e = c.admit_state.ensures in
-    (λ media frames p q. e.0 ∙ then_rest (first c media frames) rest _ (c.admit_device-admitted.ensures media frames p q) refl _ c.in-Done.is, e.1)
+    (λ media frames p q. e.0 ∙ then_rest (first c.args.state.now c.args.sizes.now media frames) rest _ (c.admit_device-admitted.ensures media frames p q) refl _ c.in-Done.is, e.1)

@@ -9,7 +9,7 @@ use Rattle.scan.proofs.Loops.{FlaggedBelow}
 use Rattle.admission.proofs.files_in_order.Given as goal
 
 abbrev pub invariant-loop-f : goal.invariant-loop-f
-invariant-loop-f l = FlaggedBelow (λ l.f. in_order (file_bytes pages_per_file) (sizes_beside l.sizes (decode l.state) l.f)) l.f (eqb l.wrong 0) × (l.f ≤ files)
+invariant-loop-f l = FlaggedBelow (λ f. in_order (file_bytes pages_per_file) (sizes_beside l.sizes (decode l.state) f)) l.f (eqb l.wrong 0) × (l.f ≤ files)
 
 abbrev pub decreases-loop-f : goal.decreases-loop-f
 decreases-loop-f l = files - l.f

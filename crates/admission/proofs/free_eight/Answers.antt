@@ -1,5 +1,4 @@
 use mathlib.Core.Path.{◌≡◌, sym, ap, ◌∙◌}
-use mathlib.Core.Logic.{⊎_elim}
 use Prim.Native.Nat.{◌+◌, ◌-◌}
 use native.Mathlib.Omega.{arith}
 use lib.ListN.{length}
@@ -8,6 +7,7 @@ use Rattle.state_bytes.specs.Encoding.{slot_set}
 use Rattle.admission.specs.Freeing.{is_from, freed_slots}
 use Rattle.admission.proofs.Freeing.{freed_here, freed_none, length-slot_set}
 use Rattle.admission.proofs.free_eight.Goals as goal
+use Rattle.admission.proofs.free_eight.Goals.{then-is_from, else-is_from}
 
 pub loop-i-init : goal.loop-i-init
 loop-i-init c = (λ bytes h. h, search rules, search rules, search rules, search rules)
@@ -19,19 +19,18 @@ loop-i-preserved c =
     let state = c.loop-i.state in
     let t = ap (is_from a.file a.n) (sym c.slot_at.ensures) ∙ sym c.is_from.ensures in (
       λ bytes h.
-          ⊎_elim
-          (λ w.
-          w.6 ∙ w.3.ensures ∙ ap (slot_set state i) w.2.ensures
-          ∙ freed_here a.file a.n i bytes state (c.loop-i.invariant.0 bytes h) (t ∙ w.0.taken))
-          (λ w. w.1 ∙ freed_none a.file a.n i bytes state (c.loop-i.invariant.0 bytes h) (t ∙ w.0.left))
-          c.if-is_from.branch,
+          elim c.if-is_from.branch [
+            | then-is_from w ↦ w.state-is ∙ w.set_slot.ensures ∙ ap (slot_set state i) w.free_slot.ensures
+                ∙ freed_here a.file a.n i bytes state (c.loop-i.invariant.0 bytes h) (t ∙ w.if-is_from.true)
+            | else-is_from w ↦ w.state-is ∙ freed_none a.file a.n i bytes state (c.loop-i.invariant.0 bytes h) (t ∙ w.if-is_from.false)
+          ],
       search rules,
       search rules,
       search rules,
-      ⊎_elim
-          (λ w. ap length w.6 ∙ ap length w.3.ensures ∙ length-slot_set state i _ ∙ c.loop-i.invariant.4)
-          (λ w. ap length w.1 ∙ c.loop-i.invariant.4)
-          c.if-is_from.branch,
+      elim c.if-is_from.branch [
+        | then-is_from w ↦ ap length w.state-is ∙ ap length w.set_slot.ensures ∙ length-slot_set state i _ ∙ c.loop-i.invariant.4
+        | else-is_from w ↦ ap length w.state-is ∙ c.loop-i.invariant.4
+      ],
     )
 
 pub shape_of-state : goal.shape_of-state
