@@ -1,4 +1,4 @@
-use Rattle.std.proofs.Common.{◌-◌, ◌≤◌, arith}
+use Rattle.std.proofs.Common.{◌≤◌, arith}
 use Rattle.answer.specs.declared.Refusal.TheVariants.{Range}
 use Rattle.trip_list.specs.Scanner.{LineAt}
 use Rattle.trip_list.proofs.Parsing.{list-range}

@@ -1,5 +1,4 @@
 use mathlib.Core.Path.{refl}
-use Prim.Native.Nat.{◌-◌}
 use native.Mathlib.Omega.{arith}
 use Rattle.trip_writer.proofs.Joining.{joining_start}
 use Rattle.trip_writer.proofs.join_lines.Goals as goal

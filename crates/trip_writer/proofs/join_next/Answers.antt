@@ -5,27 +5,20 @@ use Prim.Native.Nat.{◌<◌, max}
 use native.Mathlib.Omega.{arith}
 use lib.Dec.{ltb}
 use borrow.Author.Tests.{lt-ltb, le-ltb}
-use Rattle.trip_writer.specs.Joining.{no_minute}
 use Rattle.trip_writer.proofs.Joining.{picked_placed, first_here, second_here, second_on, skip_next, advanced_by}
 use Rattle.trip_writer.proofs.join_next.Goals as goal
 
 pub same_rest-requires : goal.same_rest-requires
-same_rest-requires c =
-    let one_minute : let s = c.args.s in (s.a.minute ≡ s.b.minute) × (s.a.minute < no_minute) × (s.b.minute < no_minute) = (omega arith, omega arith, omega arith) in
-    let w = c.requires.0 in (first_here _ _ _ _ w one_minute.1, second_here _ _ _ _ w one_minute.2)
+same_rest-requires c = let w = c.requires.0 in (first_here _ _ _ _ w (omega arith), second_here _ _ _ _ w (omega arith))
 
 pub overflow_add-next : goal.overflow_add-next
-overflow_add-next c =
-    let one_minute : let s = c.args.s in (s.a.minute ≡ s.b.minute) × (s.a.minute < no_minute) × (s.b.minute < no_minute) = (omega arith, omega arith, omega arith) in
-    omega (arith, second_on _ _ _ _ c.requires.0 one_minute.2)
+overflow_add-next c = omega (arith, second_on _ _ _ _ c.requires.0 (omega arith))
 
 pub returns-then-a-b : goal.returns-then-a-b
 returns-then-a-b c =
-    let one_minute : let s = c.args.s in (s.a.minute ≡ s.b.minute) × (s.a.minute < no_minute) × (s.b.minute < no_minute) = (omega arith, omega arith, omega arith) in
-    let w = c.requires.0 in
-    let m = one_minute in (
-      skip_next _ _ _ _ w m.0 m.1 _ c.head-line.ensures _ (c.both-agree.ensures ∙ ap (λ (g : Bool). c.args.s.agree && g) c.same_rest.ensures),
-      omega (arith, second_on _ _ _ _ w m.2),
+    let w = c.requires.0 in (
+      skip_next _ _ _ _ w (omega arith) (omega arith) _ c.head-line.ensures _ (c.both-agree.ensures ∙ ap (λ (g : Bool). c.args.s.agree && g) c.same_rest.ensures),
+      omega (arith, second_on _ _ _ _ w (omega arith)),
     )
 
 pub spell_below-place-requires : goal.spell_below-place-requires

@@ -1,7 +1,5 @@
 -- `trip_writer::kept_from` meets its contract: the zeros are counted from where each number begins.
-use Prim.Native.Nat.{◌+◌, ◌≤◌, ◌<◌}
 use native.Mathlib.Omega.{arith}
-use lib.ListN.{length}
 use Rattle.memory.proofs.Bytes.{rest-whole}
 use Rattle.trip_list.proofs.Stepping.{line-inside}
 use Rattle.trip_writer.proofs.Pieces.{fields-inside, minute-counts, metres-counts, kept-found}
@@ -9,71 +7,49 @@ use Rattle.trip_writer.proofs.kept_from.Goals as goal
 
 pub overflow_add-second : goal.overflow_add-second
 overflow_add-second c =
-    let inside : (1 ≤ c.args.line.second) × (c.args.line.second < c.args.line.driver) × (c.args.line.driver ≤ c.args.line.length)
-    × (c.args.at + c.args.line.length ≤ length c.args.list.now) = omega (arith, fields-inside _ _ _ c.requires, line-inside _ _ _ c.requires) in
-    omega (arith, inside)
+    omega (arith, fields-inside _ _ _ c.requires, line-inside _ _ _ c.requires)
 
 pub slice_bounds-leading_zeros-count : goal.slice_bounds-leading_zeros-count
 slice_bounds-leading_zeros-count c =
-    let inside : (1 ≤ c.args.line.second) × (c.args.line.second < c.args.line.driver) × (c.args.line.driver ≤ c.args.line.length)
-    × (c.args.at + c.args.line.length ≤ length c.args.list.now) = omega (arith, fields-inside _ _ _ c.requires, line-inside _ _ _ c.requires) in
-    omega (arith, inside)
+    omega (arith, fields-inside _ _ _ c.requires, line-inside _ _ _ c.requires)
 
 pub slice_bounds-leading_zeros-start : goal.slice_bounds-leading_zeros-start
 slice_bounds-leading_zeros-start c =
-    let inside : (1 ≤ c.args.line.second) × (c.args.line.second < c.args.line.driver) × (c.args.line.driver ≤ c.args.line.length)
-    × (c.args.at + c.args.line.length ≤ length c.args.list.now) = omega (arith, fields-inside _ _ _ c.requires, line-inside _ _ _ c.requires) in
-    omega (arith, inside)
+    omega (arith, fields-inside _ _ _ c.requires, line-inside _ _ _ c.requires)
 
 pub leading_zeros-requires : goal.leading_zeros-requires
 leading_zeros-requires c =
-    let inside : (1 ≤ c.args.line.second) × (c.args.line.second < c.args.line.driver) × (c.args.line.driver ≤ c.args.line.length)
-    × (c.args.at + c.args.line.length ≤ length c.args.list.now) = omega (arith, fields-inside _ _ _ c.requires, line-inside _ _ _ c.requires) in
-    omega (arith, inside)
+    omega (arith, fields-inside _ _ _ c.requires, line-inside _ _ _ c.requires)
 
 pub overflow_add-result : goal.overflow_add-result
 overflow_add-result c =
-    let inside : (1 ≤ c.args.line.second) × (c.args.line.second < c.args.line.driver) × (c.args.line.driver ≤ c.args.line.length)
-    × (c.args.at + c.args.line.length ≤ length c.args.list.now) = omega (arith, fields-inside _ _ _ c.requires, line-inside _ _ _ c.requires) in
     let s = c.args.list.now in
-    omega (arith, inside, minute-counts s _ _ c.requires _ (rest-whole _ s) _ c.leading_zeros.ensures)
+    omega (arith, fields-inside _ _ _ c.requires, line-inside _ _ _ c.requires, minute-counts s _ _ c.requires _ (rest-whole _ s) _ c.leading_zeros.ensures)
 
 pub slice_bounds-leading_zeros-count-2 : goal.slice_bounds-leading_zeros-count-2
 slice_bounds-leading_zeros-count-2 c =
-    let inside : (1 ≤ c.args.line.second) × (c.args.line.second < c.args.line.driver) × (c.args.line.driver ≤ c.args.line.length)
-    × (c.args.at + c.args.line.length ≤ length c.args.list.now) = omega (arith, fields-inside _ _ _ c.requires, line-inside _ _ _ c.requires) in
-    omega (arith, inside)
+    omega (arith, fields-inside _ _ _ c.requires, line-inside _ _ _ c.requires)
 
 pub slice_bounds-leading_zeros-start-2 : goal.slice_bounds-leading_zeros-start-2
 slice_bounds-leading_zeros-start-2 c =
-    let inside : (1 ≤ c.args.line.second) × (c.args.line.second < c.args.line.driver) × (c.args.line.driver ≤ c.args.line.length)
-    × (c.args.at + c.args.line.length ≤ length c.args.list.now) = omega (arith, fields-inside _ _ _ c.requires, line-inside _ _ _ c.requires) in
-    omega (arith, inside)
+    omega (arith, fields-inside _ _ _ c.requires, line-inside _ _ _ c.requires)
 
 pub overflow_sub-line-2 : goal.overflow_sub-line-2
 overflow_sub-line-2 c =
-    let inside : (1 ≤ c.args.line.second) × (c.args.line.second < c.args.line.driver) × (c.args.line.driver ≤ c.args.line.length)
-    × (c.args.at + c.args.line.length ≤ length c.args.list.now) = omega (arith, fields-inside _ _ _ c.requires, line-inside _ _ _ c.requires) in
-    omega (arith, inside)
+    omega (arith, fields-inside _ _ _ c.requires, line-inside _ _ _ c.requires)
 
 pub overflow_sub-line-3 : goal.overflow_sub-line-3
 overflow_sub-line-3 c =
-    let inside : (1 ≤ c.args.line.second) × (c.args.line.second < c.args.line.driver) × (c.args.line.driver ≤ c.args.line.length)
-    × (c.args.at + c.args.line.length ≤ length c.args.list.now) = omega (arith, fields-inside _ _ _ c.requires, line-inside _ _ _ c.requires) in
-    omega (arith, inside)
+    omega (arith, fields-inside _ _ _ c.requires, line-inside _ _ _ c.requires)
 
 pub leading_zeros-requires-2 : goal.leading_zeros-requires-2
 leading_zeros-requires-2 c =
-    let inside : (1 ≤ c.args.line.second) × (c.args.line.second < c.args.line.driver) × (c.args.line.driver ≤ c.args.line.length)
-    × (c.args.at + c.args.line.length ≤ length c.args.list.now) = omega (arith, fields-inside _ _ _ c.requires, line-inside _ _ _ c.requires) in
-    omega (arith, inside)
+    omega (arith, fields-inside _ _ _ c.requires, line-inside _ _ _ c.requires)
 
 pub overflow_add-result-2 : goal.overflow_add-result-2
 overflow_add-result-2 c =
-    let inside : (1 ≤ c.args.line.second) × (c.args.line.second < c.args.line.driver) × (c.args.line.driver ≤ c.args.line.length)
-    × (c.args.at + c.args.line.length ≤ length c.args.list.now) = omega (arith, fields-inside _ _ _ c.requires, line-inside _ _ _ c.requires) in
     let s = c.args.list.now in
-    omega (arith, inside, metres-counts s _ _ c.requires _ (rest-whole _ s) _ c.leading_zeros.ensures _ (rest-whole _ s) _ c.leading_zeros-2.ensures)
+    omega (arith, fields-inside _ _ _ c.requires, line-inside _ _ _ c.requires, metres-counts s _ _ c.requires _ (rest-whole _ s) _ c.leading_zeros.ensures _ (rest-whole _ s) _ c.leading_zeros-2.ensures)
 
 pub returns : goal.returns
 returns c =

@@ -1,6 +1,6 @@
 -- `trip_writer::put_line` meets its contract: a piece of the line is laid down, and the other after it.
 use mathlib.Core.Path.{ap}
-use Prim.Native.Nat.{◌+◌, ◌-◌, ◌*◌, ◌≤◌}
+use Prim.Native.Nat.{◌+◌, ◌-◌}
 use native.Mathlib.Omega.{arith}
 use lib.ListN.{length}
 use Rattle.trip_list.specs.Scanner.{greatest_line}

@@ -1,5 +1,4 @@
 use mathlib.Core.Path.{refl, sym, ◌∙◌}
-use Prim.Native.Nat.{◌-◌}
 use native.Mathlib.Omega.{arith}
 use Rattle.scan.proofs.Same.{same_next, same_stop, same_end, same_length}
 use Rattle.trip_writer.proofs.same_bytes.Goals as goal

@@ -1,4 +1,3 @@
-use Prim.Native.Nat.{◌-◌}
 use native.Mathlib.Omega.{arith}
 use Rattle.trip_writer.proofs.Joining.{advanced_start, placed_next, advanced_next, place-ready, place_on}
 use Rattle.trip_writer.proofs.spell_below.Goals as goal

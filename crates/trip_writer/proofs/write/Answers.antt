@@ -1,8 +1,6 @@
 -- `trip_writer::write` meets its contract: the list is spelled into an array, and from there copied to the buffer.
 use mathlib.Core.Path.{sym}
-use Prim.Native.Nat.{◌≤◌}
 use native.Mathlib.Omega.{arith}
-use lib.ListN.{length}
 use Rattle.memory.proofs.Bytes.{length_front}
 use Rattle.trip_list.proofs.Walking.{write_shape, write-long}
 use Rattle.trip_writer.proofs.Answers.{spelled-fits, write-refused, write_done}
@@ -21,15 +19,12 @@ returns-then-s-list c =
 
 pub slice_bounds-spelled-end : goal.slice_bounds-spelled-end
 slice_bounds-spelled-end c =
-    let within : c.join_lines-s.result.end ≤ length c.join_lines-s.new.output = let s = c.join_lines-s in
-    omega (arith, spelled-fits _ (omega arith) _ _ s.ensures.0 s.ensures.1 (omega arith), s.auto) in
-    within
+    let s = c.join_lines-s in omega (arith, spelled-fits _ (omega arith) _ _ s.ensures.0 s.ensures.1 (omega arith), s.auto)
 
 pub slice_bounds-copy-end : goal.slice_bounds-copy-end
 slice_bounds-copy-end c =
-    let within : c.join_lines-s.result.end ≤ length c.join_lines-s.new.output = let s = c.join_lines-s in
-    omega (arith, spelled-fits _ (omega arith) _ _ s.ensures.0 s.ensures.1 (omega arith), s.auto) in
-    sym (length_front _ _ within)
+    let s = c.join_lines-s in
+    sym (length_front _ _ (omega (arith, spelled-fits _ (omega arith) _ _ s.ensures.0 s.ensures.1 (omega arith), s.auto)))
 
 pub returns : goal.returns
 returns c =
