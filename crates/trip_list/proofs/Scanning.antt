@@ -5,7 +5,6 @@ use lib.Seq.{get_or-append_seam}
 use Rattle.scan.proofs.Scan.{and_left, and_right, is_false}
 use Rattle.text.specs.Decimal.{is_digit, value}
 use Rattle.text.specs.Marks.{LF, comma, fields}
-use Rattle.trip_list.specs.declared.Line as line
 use Rattle.text.specs.Runs.{run, front}
 use Rattle.text.proofs.Runs.{run_join, front-join, mark_within, front-split, length_run}
 use Rattle.trip_list.specs.Trip.{Trip, trip, is_driver_byte, is_number, is_driver, field, line_of}

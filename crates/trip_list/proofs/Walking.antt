@@ -15,7 +15,7 @@ use Rattle.memory.proofs.Cases.{split_eq}
 use Rattle.text.specs.Marks.{LF, comma}
 use Rattle.trip_list.specs.declared.Trip as code
 use Rattle.trip_list.specs.declared.Line as line
-use Rattle.trip_list.specs.Trip.{Trip, trip, spell_trip, spell, trip_of}
+use Rattle.trip_list.specs.Trip.{Trip, spell_trip, spell, trip_of}
 use Rattle.trip_list.specs.List.{Parsed, trips, refusal, before, parse_from, parse, trips_of, greatest_list, answer_of, list_answer, spelling, write_answer, written}
 use Rattle.trip_list.specs.Lines.{has_line, first_trip, line_length, driver_start, line_start}
 use Rattle.trip_list.specs.Lookup.{located, given, in_list, read_trip, line_tests, next_answer, next_trip}

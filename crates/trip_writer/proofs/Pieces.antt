@@ -14,7 +14,7 @@ use Rattle.trip_list.specs.Lines.{line_length}
 use Rattle.trip_list.specs.Scanner.{greatest_line, LineAt}
 use Rattle.trip_list.proofs.Lines.{after_mark, minute_of, metres_of, texts}
 use Rattle.trip_list.proofs.Spelling.{minute-zeros, metres-zeros, minute_zeros, metres_zeros, parts-length, spell-shorter, kept-parts}
-use Rattle.trip_list.proofs.Stepping.{driver_start_lem}
+use Rattle.trip_list.proofs.Stepping.{driver_start_lem, line-inside, length-fits}
 use Rattle.trip_writer.specs.declared.Kept as kept
 use Rattle.trip_writer.specs.Spelling.{spelled_line, KeptAt}
 
@@ -85,6 +85,11 @@ module _ (list : List ℕ) (at : ℕ) (l : line.Line) (a : LineAt list at l) whe
 
     pub third_end : k.metres ≤ at + l.length
     third_end = omega (arith, z.metres, a.read.size, metres-zeros s a.form, parts-length s a.form)
+
+    -- the pieces stand in order, within the list
+    pub in_order : (k.minute ≤ at + l.second) × (at + l.second ≤ k.metres) × (k.metres ≤ at + l.length)
+        × (at + l.length ≤ length list) × (l.length ≤ greatest_line)
+    in_order = (first-second, second_third, third_end, line-inside list at l a, length-fits list at l a)
 
     pub spelled-length : at + l.second - k.minute + (at + l.length - k.metres) ≡ length (spelled_line list at)
     unfolding spelled_line

@@ -1,4 +1,4 @@
-use Rattle.std.proofs.Common.{◌-◌, sym, ◌∙◌, arith}
+use Rattle.std.proofs.Common.{sym, ◌∙◌, arith}
 use Rattle.words.specs.Words.{eight_or_none, first_eight}
 use Rattle.trip_list.specs.Trip.{is_driver_byte}
 use Rattle.text.proofs.Runs.{passed_first, passed-next}

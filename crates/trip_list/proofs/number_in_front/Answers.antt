@@ -11,12 +11,12 @@ pub returns-then-digit-gt9 : goal.returns-then-digit-gt9
 returns-then-digit-gt9 c =
     let s = c.wrapping_sub_u8-digit in
     let x = get_or c.args.text.now c.loop-i.i 0 in
-    digits-read _ _ _ c.loop-i.invariant (omega arith) (no_digit-found x s.result (omega arith) s.ensures (omega arith) (omega arith)) _ c.number_ends.ensures
+    digits-read _ _ _ c.loop-i.invariant (omega arith) (no_digit-found x s.result (omega arith) s.ensures.value (omega arith) (omega arith)) _ c.number_ends.ensures
 
 pub returns-then-i-eq10 : goal.returns-then-i-eq10
 returns-then-i-eq10 c =
     let digit : (is_digit (get_or c.args.text.now c.loop-i.i 0) ≡ true)
-    × (c.wrapping_sub_u8-digit.result ≡ get_or c.args.text.now c.loop-i.i 0 - 48) = digit_found _ _ c.wrapping_sub_u8-digit.ensures (omega arith) in
+    × (c.wrapping_sub_u8-digit.result ≡ get_or c.args.text.now c.loop-i.i 0 - 48) = digit_found _ _ c.wrapping_sub_u8-digit.ensures.value (omega arith) in
     nothing_read (digits_many _ _ _ c.loop-i.invariant (omega arith) digit.0 (omega arith))
 
 pub overflow_mul-value : goal.overflow_mul-value
@@ -30,7 +30,7 @@ overflow_add-value c =
 pub loop-i-preserved : goal.loop-i-preserved
 loop-i-preserved c =
     let digit : (is_digit (get_or c.args.text.now c.loop-i.i 0) ≡ true)
-    × (c.wrapping_sub_u8-digit.result ≡ get_or c.args.text.now c.loop-i.i 0 - 48) = digit_found _ _ c.wrapping_sub_u8-digit.ensures (omega arith) in
+    × (c.wrapping_sub_u8-digit.result ≡ get_or c.args.text.now c.loop-i.i 0 - 48) = digit_found _ _ c.wrapping_sub_u8-digit.ensures.value (omega arith) in
     let l = c.loop-i in
     let d = digit in
     rw (c.widen.ensures, d.1) (digits-next _ _ _ l.invariant (omega arith) d.0 (omega (arith, l.invariant.few)))
