@@ -21,7 +21,7 @@ slice_bounds-result-end c =
 pub returns-then-span : goal.returns-then-span
 returns-then-span c =
     let device : Device = device_of (media_of c.args.media.now c.args.sizes.now) c.args.frames.now c.args.cache in
-    span_in_frames pages_per_file c.args.file c.args.position device c.look_span-span.result c.look_span-span.ensures c.args.media.ptr c.args.frames.ptr c.if-span.true
+    span_in_frames pages_per_file c.args.file c.args.position device c.look_span-span.result c.look_span-span.ensures c.args.media.ref_ptr c.args.frames.ref_ptr c.if-span.true
 
 pub slice_bounds-result-end-2 : goal.slice_bounds-result-end-2
 slice_bounds-result-end-2 c =
@@ -32,4 +32,4 @@ slice_bounds-result-end-2 c =
 pub returns : goal.returns
 returns c =
     let device : Device = device_of (media_of c.args.media.now c.args.sizes.now) c.args.frames.now c.args.cache in
-    span_in_media pages_per_file c.args.file c.args.position device c.look_span-span.result c.look_span-span.ensures c.args.media.ptr c.args.frames.ptr c.if-span.false
+    span_in_media pages_per_file c.args.file c.args.position device c.look_span-span.result c.look_span-span.ensures c.args.media.ref_ptr c.args.frames.ref_ptr c.if-span.false

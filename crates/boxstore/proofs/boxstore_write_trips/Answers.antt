@@ -1,0 +1,15 @@
+-- `boxstore::boxstore_write_trips` meets its contract: the call of trip_writer, its answer as a word.
+use native.Mathlib.Omega.{arith}
+use Rattle.trip_list.specs.List.{greatest_list}
+use Rattle.trip_list.proofs.Walking.{write-count}
+use Rattle.boxstore.proofs.Counts.{fits}
+use Rattle.boxstore.proofs.boxstore_write_trips.Goals as goal
+
+pub answer_word-requires : goal.answer_word-requires
+answer_word-requires c =
+    let k = c.args in
+    fits _ _ greatest_list c.write.ensures.0 (write-count k.list.now k.buffer.now) (omega arith)
+
+pub returns : goal.returns
+returns c =
+    let e = c.write.ensures in rw (c.answer_word.ensures, e.0, e.1)
