@@ -50,7 +50,7 @@ returns-in-Truncate c =
     let a = c.args in
     executed_without_bytes a.request _ c.in-Truncate.is pages_per_file
     (device_of (media_of a.media.now a.sizes.now) a.frames.now a.cache) _ _ _ _ _ _ _ _ _ refl
-    c.truncate.ensures c.without_bytes-in-Truncate.ensures
+    (cc) c.without_bytes-in-Truncate.ensures
 
 pub returns-in-Sync : goal.returns-in-Sync
 unfolding run
@@ -58,7 +58,7 @@ returns-in-Sync c =
     let a = c.args in
     executed_without_bytes a.request _ c.in-Sync.is pages_per_file
     (device_of (media_of a.media.now a.sizes.now) a.frames.now a.cache) _ _ _ _ _ _ _ _ _ refl
-    c.sync.ensures c.without_bytes-in-Sync.ensures
+    (cc) c.without_bytes-in-Sync.ensures
 
 pub returns-in-Read : goal.returns-in-Read
 unfolding run
