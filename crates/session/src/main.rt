@@ -12,8 +12,8 @@ ghost use Rattle.session_run.specs.Feeding.{feed, last_end, reply_bytes};
 ghost use Rattle.session_run.specs.Steps.{Stepped};
 ghost use Rattle.device.specs.Moments.{device_at_entry, device_at_exit};
 
-use libc::{STDIN_FILENO, STDOUT_FILENO};
 use session_run::Session;
+use std::io::{ErrorKind, Read, Write};
 
 // As many bytes are read at a time.
 const BLOCK_BYTES: usize = 1024;
@@ -72,13 +72,15 @@ fn run_end(
     }
 }
 
-// Writes text to standard output, and answers whether that went well.
-fn write_out(text: &[u8]) -> bool {
-    let is_written = io::write_all(STDOUT_FILENO, text);
-    if !is_written {
-        os::fail(b"session: standard output");
+// Writes text to standard output, and answers whether that went well. If not, it says so on standard error.
+fn write_out<W: Write, E: Eprint>(writer: &mut W, rt: &E, text: &[u8]) -> bool {
+    match writer.write_all(text) {
+        Ok(()) => true,
+        Err(e) => {
+            let _ = eprintln!(rt; "session: standard output: {e}");
+            false
+        }
     }
-    is_written
 }
 
 // The session after a block of input, and whether to go on.
@@ -89,59 +91,73 @@ struct Turn {
 }
 
 // Reads a block, runs it and writes what it prints.
-fn serve_block(
+fn serve_block<R: Read, W: Write, E: Eprint>(
     media: &mut [u8],
     sizes: &mut [u32],
     frames: &mut [u8],
     session: Session,
     input: &mut [u8],
     output: &mut [u8],
+    reader: &mut R,
+    writer: &mut W,
+    rt: &E,
 ) -> Turn
     requires { (reply_bytes * length input.old ≤ length output.old) × (reply_bytes ≤ length output.old) }
- -> Turn
-    requires { (reply_bytes * length input.old ≤ length output.old) × (reply_bytes ≤ length output.old) }
 {
-    let got = libc::read(STDIN_FILENO, input);
-    if got < 0 {
-        let is_interrupted = os::errno() == libc::EINTR;
-        if !is_interrupted {
-            os::fail(b"session: standard input");
+    match reader.read(input) {
+        Ok(0) => {
+            let last = run_end(media, sizes, frames, session, output);
+            let n = last.count;
+            write_out(writer, rt, &output[..n]);
+            let after = last.session;
+            Turn {
+                session: after,
+                more: false,
+            }
         }
-        return Turn {
-            session,
-            more: is_interrupted,
-        };
-    }
-    if got == 0 {
-        let last = run_end(media, sizes, frames, session, output);
-        let n = last.count;
-        write_out(&output[..n]);
-        let after = last.session;
-        return Turn {
-            session: after,
-            more: false,
-        };
-    }
-    let n = io::count(got, input);
-    let block = run_block(media, sizes, frames, session, &input[..n], output);
-    let k = block.count;
-    let next = block.session;
-    Turn {
-        session: next,
-        more: write_out(&output[..k]),
+        Ok(n) => {
+            let block = run_block(media, sizes, frames, session, &input[..n], output);
+            let k = block.count;
+            let next = block.session;
+            Turn {
+                session: next,
+                more: write_out(writer, rt, &output[..k]),
+            }
+        }
+        Err(e) => {
+            let is_interrupted = e.kind() == ErrorKind::Interrupted;
+            if !is_interrupted {
+                let _ = eprintln!(rt; "session: standard input: {e}");
+            }
+            Turn {
+                session,
+                more: is_interrupted,
+            }
+        }
     }
 }
 
 // Runs blocks until the input ends, on media that are all 0. A proved loop has to end, and nothing says that the input does: so it
 // counts its turns down from a number that no run uses up.
-fn run(media: &mut [u8], sizes: &mut [u32], frames: &mut [u8], input: &mut [u8], output: &mut [u8])
+fn run<R: Read, W: Write, E: Eprint>(
+    media: &mut [u8],
+    sizes: &mut [u32],
+    frames: &mut [u8],
+    input: &mut [u8],
+    output: &mut [u8],
+    reader: &mut R,
+    writer: &mut W,
+    rt: &E,
+)
     requires { (device_of (media_of media.old sizes.old) frames.old down_state ≡ start_device pages_per_file)
         × (reply_bytes * length input.old ≤ length output.old) × (reply_bytes ≤ length output.old) }
 {
     let mut session = session_run::start();
     let mut turns = u64::MAX;
     while turns > 0 {
-        let next = serve_block(media, sizes, frames, session, input, output);
+        let next = serve_block(
+            media, sizes, frames, session, input, output, reader, writer, rt,
+        );
         if next.more {
             let after = next.session;
             session = after;
@@ -152,14 +168,25 @@ fn run(media: &mut [u8], sizes: &mut [u32], frames: &mut [u8], input: &mut [u8],
     }
 }
 
-fn main() {
+fn main(rt: HostRuntime) {
     let mut media = [0u8; 32768];
     let mut sizes = [0u32; 8];
     let mut frames = [0u8; 6144];
     let mut input = [0u8; BLOCK_BYTES];
     let mut output = [0u8; BLOCK_BYTES * session_run::REPLY_BYTES];
+    let mut reader = rt.stdin();
+    let mut writer = rt.stdout();
     let header = session_run::header();
-    if write_out(&header) {
-        run(&mut media, &mut sizes, &mut frames, &mut input, &mut output);
+    if write_out(&mut writer, &rt, &header) {
+        run(
+            &mut media,
+            &mut sizes,
+            &mut frames,
+            &mut input,
+            &mut output,
+            &mut reader,
+            &mut writer,
+            &rt,
+        );
     }
 }

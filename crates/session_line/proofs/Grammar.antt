@@ -16,7 +16,7 @@ use Rattle.memory.proofs.Cases.{split_eq}
 use Rattle.scan.specs.Scan.{first_index}
 use Rattle.scan.proofs.Scan.{and_left, and_right, first_le}
 use Rattle.text.specs.Decimal.{value}
-use Rattle.text.specs.Marks.{comma, fields}
+use Rattle.text.specs.Marks.{comma}
 use Rattle.text.proofs.Decimal.{numeral}
 use Rattle.text.proofs.Marks.{parts-split}
 use Rattle.session_line.specs.Grammar.{is_number, Form, forms, numbers_fit, Command, command, malformed, by_forms, greatest_line, parse, F, M, W, T, S, R}

@@ -1,4 +1,3 @@
-use Prim.Native.Nat.{◌-◌}
 use native.Mathlib.Omega.{arith}
 use Rattle.scan.proofs.Loops.{checked_none, checked_stop, checked_next, checked_end}
 use Rattle.text.proofs.Decimal.{not_digit_below, not_digit_above, is_digit_lem}

@@ -1,4 +1,3 @@
-use Prim.Native.Nat.{◌-◌}
 use native.Mathlib.Omega.{arith}
 use Rattle.text.proofs.Decimal.{valued-none, valued-next, valued_end, valued-small, digit_at}
 use Rattle.session_line.proofs.value.Goals as goal

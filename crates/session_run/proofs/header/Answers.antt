@@ -1,0 +1,8 @@
+-- `session_run::header` meets its contract: these are its bytes.
+use mathlib.Core.Path.{refl}
+use Rattle.session_line.specs.Reply.{header}
+use Rattle.session_run.proofs.header.Goals as goal
+
+pub returns : goal.returns
+unfolding header
+returns c = refl
