@@ -5,17 +5,16 @@ use mathlib.Core.List.{List, [], ◌∷◌, ◌++◌}
 use Prim.Native.Nat.{ℕ, ◌≤◌, ◌<◌, ◌/◌, ◌%◌}
 use native.Mathlib.Omega.{arith}
 use lib.Dec.{eqb, ltb}
-use lib.ListN.{length, get_or, get_or-eq_default}
+use lib.ListN.{length, get_or}
 use borrow.Author.Tests.{eqb-true, eq-eqb, ltb-true, lt-ltb}
 use borrow.Table.Steps.{cases}
 use Rattle.memory.specs.Bytes.{is_byte}
 use Rattle.scan.specs.Scan.{all_of, every}
-use Rattle.memory.proofs.Cases.{split_lt}
 use Rattle.scan.proofs.Scan.{and_left, and_right, all_of_at, every_at, every_all}
 use Rattle.media.specs.Geometry.{files, file_bytes}
 use Rattle.device.specs.declared.Slot.{Slot}
 use Rattle.device.specs.declared.CacheState.{CacheState}
-use Rattle.device.specs.Device.{slot_count, free_slot, is_used, is_free}
+use Rattle.device.specs.Device.{free_slot, is_used, is_free}
 use Rattle.device.specs.Sound.{in_range, has_lengths, is_sound, sound_tests}
 use Rattle.device.proofs.Sound.{lengths_are, sound-lengths, sound_mark, sound-sizes}
 use Rattle.state_bytes.specs.Encoding.{state_bytes, encode, concat_map, slot_bytes, number_bytes}

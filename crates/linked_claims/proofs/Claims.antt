@@ -3,7 +3,7 @@ use mathlib.Core.Path.{◌≡◌, refl, sym, ap, ◌∙◌, subst}
 use mathlib.Core.Logic.{◌⊎◌, inl, inr}
 use mathlib.Core.Bool.{true, false}
 use mathlib.Core.List.{List, [], ◌++◌}
-use Prim.Native.Nat.{ℕ, suc, ◌≤◌, ◌<◌}
+use Prim.Native.Nat.{ℕ, ◌≤◌, ◌<◌}
 use native.Mathlib.Omega.{arith}
 use lib.Dec.{eqb}
 use lib.ListN.{length}
@@ -20,7 +20,6 @@ use Rattle.device.specs.Device.{Device, device_of, down_state}
 use Rattle.device.specs.Sound.{is_sound}
 use Rattle.device.specs.Admission.{Result}
 use Rattle.device.specs.Looking.{span_bytes}
-use Rattle.device.specs.Reading as Reading
 use Rattle.device.specs.Writing as Writing
 use Rattle.device.specs.Truncating as Truncating
 use Rattle.device.specs.Syncing as Syncing
@@ -41,7 +40,7 @@ use Rattle.model.specs.View.{conditions, plan, limits}
 use Rattle.model.specs.Work.{Works}
 use Rattle.model.specs.Claims.{as_it_came, Made, Cut, Persists, Answers, Demand1, Serves, Served, Demand2, Demand3}
 use Rattle.model.specs.Format.{format_writes, Formats, Format}
-use Rattle.model.specs.Demands.{Priced, Loses, Begins, PlainDemands}
+use Rattle.model.specs.Demands.{Loses, Begins, PlainDemands}
 use Rattle.model.specs.States.{CrashState, ClosedForm}
 use Rattle.model.specs.Store.{store, store_does, without_output}
 use Rattle.model.proofs.ModelFile.{state_becomes}

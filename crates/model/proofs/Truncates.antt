@@ -17,7 +17,7 @@ use Rattle.device.specs.Truncating.{truncated}
 use Rattle.device.proofs.Sound.{Fit}
 use Rattle.device.proofs.Truncating.{truncate_by, truncated-logical, truncated-floor, truncated_sizes_other, truncated-fit, truncated-media, truncated-below, truncated_past, truncated_other, truncated-cached, truncated-cached_other}
 use Rattle.model.specs.ModelFile.{ModelFile, after_truncate}
-use Rattle.model.specs.ModelFile.Entry.{truncated as truncatedTo}
+use Rattle.model.specs.ModelFile.Entry.{truncated as truncated_to}
 use Rattle.model.specs.Run.{Files, change, feed}
 use Rattle.model.specs.Run.Call.{truncate}
 use Rattle.model.specs.States.{redo, replay}
@@ -43,7 +43,7 @@ module _ (P : ℕ) (d : Device) (x : Fit P d) (frames : length d.frames ≡ fram
   kept : (i : ℕ) → i < n → current_at P c f i ≡ current_at P d f i
   kept = truncated-below P d x frames f n hf
 
-  own_mixed : (file : List ℕ) (boundary : ℕ) → Mixed P d f boundary file → Mixed P c f boundary (redo boundary file (truncatedTo n))
+  own_mixed : (file : List ℕ) (boundary : ℕ) → Mixed P d f boundary file → Mixed P c f boundary (redo boundary file (truncated_to n))
   own_mixed file boundary y =
       let lc : floor_at c f ≡ min (floor_at d f) n = truncated-floor P d x frames f n hf in
       let lf : length file ≡ floor_at d f = y.size_is in
@@ -71,10 +71,10 @@ module _ (P : ℕ) (d : Device) (x : Fit P d) (frames : length d.frames ≡ fram
     durable_size = y.durable_size ∙ sym (same_stored f).size_is;
     durable_is = λ i hi. y.durable_is i hi ∙ sym ((same_stored f).byte_is i hi);
     mixed = λ boundary.
-        rw (replay_one_more boundary m.durable m.log (truncatedTo n))
+        rw (replay_one_more boundary m.durable m.log (truncated_to n))
         (own_mixed (replay boundary m.durable m.log) boundary (y.mixed boundary));
-    carried = rw (carried_one_more m.durable m.log (truncatedTo n), y.carried);
-    cached = λ q. truncated-cached P d x frames f n hf q ∙ rw (cached_one_more m.durable m.log (truncatedTo n) q false, y.cached q);
+    carried = rw (carried_one_more m.durable m.log (truncated_to n), y.carried);
+    cached = λ q. truncated-cached P d x frames f n hf q ∙ rw (cached_one_more m.durable m.log (truncated_to n) q false, y.cached q);
   }
 
   truncated_keeps : (fs : Files) → d.cache.mounted ≡ 1 → Invariant P d fs → Invariant P c (change f (after_truncate n) fs)

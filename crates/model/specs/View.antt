@@ -1,5 +1,5 @@
 -- What the papers ask of a call, from what is seen of a store: its refusals, in their order, and its media writes.
-use Rattle.std.specs.Prelude.{ℕ, suc, ◌+◌, ◌≤◌, ◌<◌, Bool, true, false, cond, ◌&&◌, List, [], ◌∷◌, ◌++◌, eqb, leb, length, take}
+use Rattle.std.specs.Prelude.{ℕ, suc, ◌+◌, ◌≤◌, ◌<◌, Bool, true, ◌&&◌, List, [], ◌∷◌, ◌++◌, leb, length, take}
 use Rattle.answer.specs.Coded.{Coded, refused, SHAPE, NO_ROOM, CUT}
 use Rattle.answer.specs.Admission.{Test, test}
 use Rattle.scan.specs.Scan.{same_bytes}

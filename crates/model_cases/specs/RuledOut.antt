@@ -287,9 +287,9 @@ forgets_truncate =
     with_truncate 1 (λ f n d.
     let r : Result Device = (store_calls 1).truncating f n d in
     let low : ℕ = floor_at r.left f in
-    let zeroFrom : Bool = all_zero (part d.media.bytes (file_start 1 f + low) (n - low)) in
+    let zero_from : Bool = all_zero (part d.media.bytes (file_start 1 f + low) (n - low)) in
     if_done r.answer
-    (give r.answer (device_of r.left.media r.left.frames (with_floor r.left.cache f (cond zeroFrom (min n (size_at d.media f)) low)))) r)
+    (give r.answer (device_of r.left.media r.left.frames (with_floor r.left.cache f (cond zero_from (min n (size_at d.media f)) low)))) r)
 
 -- the bytes of a file that is empty on the media go there, and its size does not
 abbrev pub put_past : ℕ → Device → Device

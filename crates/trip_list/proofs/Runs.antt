@@ -18,7 +18,7 @@ use Rattle.text.proofs.Runs.{length_run, front-every, first-few, first-within, f
 use Rattle.trip_list.specs.Scanner.{number_field, driver_field, Reading, NumberRead, DriverRead}
 
 -- no such field
-pub nothing_read : {isThere : Bool} {facts : Type 0} → false ≡ isThere → Reading false isThere facts
+pub nothing_read : {is_there : Bool} {facts : Type 0} → false ≡ is_there → Reading false is_there facts
 nothing_read e = record { told = e; read = λ h. absurd (false≢true h) }
 
 -- ---- a number and the comma after it

@@ -33,18 +33,18 @@ driver_field_lem d r e =
     rw (f, n, get_or-append_seam d LF r 0, e)
 
 -- a field that is found in front
-pub record Split (t : ℕ → Bool) (isField : List ℕ → Bool) (mark : ℕ) (s : List ℕ) : Type 0 where
-  pub text : isField (front t s) ≡ true
+pub record Split (t : ℕ → Bool) (is_field : List ℕ → Bool) (mark : ℕ) (s : List ℕ) : Type 0 where
+  pub text : is_field (front t s) ≡ true
   pub within : run t s < length s
   pub whole : s ≡ front t s ++ (mark ∷ drop (run t s + 1) s)
 
 -- its mark is not 0, so it stands within the bytes
-field-split : (m : ℕ) (t : ℕ → Bool) (isField : List ℕ → Bool) (s : List ℕ) → field_before (suc m) t isField s ≡ true → Split t isField (suc m) s
-field-split m t isField s e =
+field-split : (m : ℕ) (t : ℕ → Bool) (is_field : List ℕ → Bool) (s : List ℕ) → field_before (suc m) t is_field s ≡ true → Split t is_field (suc m) s
+field-split m t is_field s e =
     let c = eqb (get_or s (run t s) 0) (suc m) in
-    let q : c ≡ true = and_right (isField (front t s)) c e in
+    let q : c ≡ true = and_right (is_field (front t s)) c e in
     let w = mark_within s (run t s) m q in
-    record { text = and_left (isField (front t s)) c e; within = w; whole = front-split t s (suc m) (eqb-true _ _ q) w }
+    record { text = and_left (is_field (front t s)) c e; within = w; whole = front-split t s (suc m) (eqb-true _ _ q) w }
 
 pub number-split : (s : List ℕ) → number_field s ≡ true → Split is_digit is_number comma s
 unfolding number_field
@@ -57,8 +57,8 @@ driver-split s e = field-split 9 is_driver_byte is_driver s e
 -- ---- a line
 
 -- a line would have had the field
-no_line_lem : (s : List ℕ) (b isField : Bool) → (Texts s → isField ≡ true) → b ≡ isField → b ≡ false → false ≡ has_line s
-no_line_lem s b isField has told e = sym (is_false (has_line s) (λ h. false≢true (sym e ∙ told ∙ has (texts s h))))
+no_line_lem : (s : List ℕ) (b is_field : Bool) → (Texts s → is_field ≡ true) → b ≡ is_field → b ≡ false → false ≡ has_line s
+no_line_lem s b is_field has told e = sym (is_false (has_line s) (λ h. false≢true (sym e ∙ told ∙ has (texts s h))))
 
 module _ (s : List ℕ) (b : Bool) (v i : ℕ) (r : NumberRead s b v i) where
   pub no_minute_lem : b ≡ false → false ≡ has_line s

@@ -14,7 +14,7 @@ use Rattle.trip_list.specs.Lookup.{line_tests}
 
 -- bytes in front that pass a test and are a field, with the mark after them
 abbrev pub field_before : ℕ → (ℕ → Bool) → (List ℕ → Bool) → List ℕ → Bool
-field_before mark t isField s = isField (front t s) && slice_index s (run t s) == mark
+field_before mark t is_field s = is_field (front t s) && slice_index s (run t s) == mark
 
 unfoldable pub number_field : List ℕ → Bool
 number_field = field_before comma is_digit is_number
@@ -23,8 +23,8 @@ unfoldable pub driver_field : List ℕ → Bool
 driver_field = field_before LF is_driver_byte is_driver
 
 -- told whether there is such a field, and where there is, facts of it
-pub record Reading (fits isThere : Bool) (facts : Type 0) : Type 0 where
-  pub told : fits ≡ isThere
+pub record Reading (fits is_there : Bool) (facts : Type 0) : Type 0 where
+  pub told : fits ≡ is_there
   pub read : fits ≡ true → facts
 
 -- a number in front: its value and its digits

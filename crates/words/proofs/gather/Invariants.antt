@@ -1,5 +1,5 @@
 -- `words::gather` meets its contract: the bytes from i on are gathered.
-use Rattle.std.proofs.Common.{◌-◌, ◌≤◌, length}
+use Rattle.std.proofs.Common.{◌≤◌, length}
 use Rattle.words.proofs.Texts.{Gathered}
 use Rattle.words.proofs.gather.Given as goal
 

@@ -1,7 +1,5 @@
 use mathlib.Core.Path.{sym, ◌∙◌}
-use Prim.Native.Nat.{◌-◌}
 use borrow.Author.Rules.{rules}
-use borrow.Author.Tests.{not-true, not-false}
 use Rattle.scan.proofs.Loops.{checked_none}
 use Rattle.writeback.proofs.Zeros.{checked_part, checked_part_fails, checked_rest}
 use Rattle.writeback.proofs.all_zero_by_pages.Goals as goal
