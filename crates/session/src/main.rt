@@ -3,7 +3,8 @@
 // It reads its input in blocks and keeps one block, one line and one block's output, whatever the length of the input or of a line.
 #![tactic(auto)]
 
-ghost use Rattle.std.specs.Prelude.{◌≡◌, ◌*◌, ◌≤◌, length};
+ghost use Rattle.std.specs.Prelude.{◌≡◌, true, ◌*◌, ◌≤◌, ◌<◌, length};
+ghost use Rattle.std.specs.Io.KnownBytes.{Appends};
 ghost use Rattle.media.specs.Geometry.{pages_per_file};
 ghost use Rattle.media.specs.Write.{media_of};
 ghost use Rattle.device.specs.Device.{device_of, down_state};
@@ -11,6 +12,7 @@ ghost use Rattle.session_run.specs.Session.{start_device};
 ghost use Rattle.session_run.specs.Feeding.{feed, last_end, reply_bytes};
 ghost use Rattle.session_run.specs.Steps.{Stepped};
 ghost use Rattle.device.specs.Moments.{device_at_entry, device_at_exit};
+ghost use Rattle.session.specs.Served.{GoesOn, Ends, Replies, Prints};
 
 use session_run::Session;
 use std::io::{ErrorKind, Read, Write};
@@ -73,7 +75,9 @@ fn run_end(
 }
 
 // Writes text to standard output, and answers whether that went well. If not, it says so on standard error.
-fn write_out<W: Write, E: Eprint>(writer: &mut W, rt: &E, text: &[u8]) -> bool {
+fn write_out<W: Write, E: Eprint>(writer: &mut W, rt: &E, text: &[u8]) -> bool
+    ensures { result ≡ true → Appends (W.contents writer.old) (W.contents writer.new) text.now }
+{
     match writer.write_all(text) {
         Ok(()) => true,
         Err(e) => {
@@ -83,14 +87,15 @@ fn write_out<W: Write, E: Eprint>(writer: &mut W, rt: &E, text: &[u8]) -> bool {
     }
 }
 
-// The session after a block of input, and whether to go on.
+// The session after a block of input, whether to go on, and whether the input has ended and all that it prints was written.
 #[derive(Clone, Copy)]
 struct Turn {
     session: Session,
     more: bool,
+    ended: bool,
 }
 
-// Reads a block, runs it and writes what it prints.
+// Reads a block, runs it and writes what it prints. A read that a signal interrupts takes nothing, and the session goes on.
 fn serve_block<R: Read, W: Write, E: Eprint>(
     media: &mut [u8],
     sizes: &mut [u32],
@@ -103,16 +108,21 @@ fn serve_block<R: Read, W: Write, E: Eprint>(
     rt: &E,
 ) -> Turn
     requires { (reply_bytes * length input.old ≤ length output.old) × (reply_bytes ≤ length output.old) }
+    ensures goes_on { result.more ≡ true → GoesOn (R.remaining reader.old) (R.remaining reader.new) (W.contents writer.old) (W.contents writer.new)
+        (device_at_entry media.old sizes.old frames.old session.cache) session.line
+        (device_at_exit media.new sizes.new frames.new result.session.cache) result.session.line }
+    ensures ends { result.ended ≡ true → 0 < length input.old → Ends (R.remaining reader.old) (W.contents writer.old) (W.contents writer.new)
+        (device_at_entry media.old sizes.old frames.old session.cache) session.line }
 {
     match reader.read(input) {
         Ok(0) => {
             let last = run_end(media, sizes, frames, session, output);
             let n = last.count;
-            write_out(writer, rt, &output[..n]);
             let after = last.session;
             Turn {
                 session: after,
                 more: false,
+                ended: write_out(writer, rt, &output[..n]),
             }
         }
         Ok(n) => {
@@ -122,6 +132,7 @@ fn serve_block<R: Read, W: Write, E: Eprint>(
             Turn {
                 session: next,
                 more: write_out(writer, rt, &output[..k]),
+                ended: false,
             }
         }
         Err(e) => {
@@ -132,13 +143,14 @@ fn serve_block<R: Read, W: Write, E: Eprint>(
             Turn {
                 session,
                 more: is_interrupted,
+                ended: false,
             }
         }
     }
 }
 
 // Runs blocks until the input ends, on media that are all 0. A proved loop has to end, and nothing says that the input does: so it
-// counts its turns down from a number that no run uses up.
+// counts its turns down from a number that no run uses up. It answers whether the input ended and all that it prints was written.
 fn run<R: Read, W: Write, E: Eprint>(
     media: &mut [u8],
     sizes: &mut [u32],
@@ -148,9 +160,10 @@ fn run<R: Read, W: Write, E: Eprint>(
     reader: &mut R,
     writer: &mut W,
     rt: &E,
-)
+) -> bool
     requires { (device_of (media_of media.old sizes.old) frames.old down_state ≡ start_device pages_per_file)
         × (reply_bytes * length input.old ≤ length output.old) × (reply_bytes ≤ length output.old) }
+    ensures { result ≡ true → 0 < length input.old → Replies (R.remaining reader.old) (W.contents writer.old) (W.contents writer.new) }
 {
     let mut session = session_run::start();
     let mut turns = u64::MAX;
@@ -163,9 +176,32 @@ fn run<R: Read, W: Write, E: Eprint>(
             session = after;
             turns -= 1;
         } else {
-            return;
+            return next.ended;
         }
     }
+    false
+}
+
+// Prints the header, and runs the session. It answers whether the input ended and all that it prints was written.
+fn print_session<R: Read, W: Write, E: Eprint>(
+    media: &mut [u8],
+    sizes: &mut [u32],
+    frames: &mut [u8],
+    input: &mut [u8],
+    output: &mut [u8],
+    reader: &mut R,
+    writer: &mut W,
+    rt: &E,
+) -> bool
+    requires { (device_of (media_of media.old sizes.old) frames.old down_state ≡ start_device pages_per_file)
+        × (reply_bytes * length input.old ≤ length output.old) × (reply_bytes ≤ length output.old) }
+    ensures { result ≡ true → 0 < length input.old → Prints (R.remaining reader.old) (W.contents writer.old) (W.contents writer.new) }
+{
+    let header = session_run::header();
+    if write_out(writer, rt, &header) {
+        return run(media, sizes, frames, input, output, reader, writer, rt);
+    }
+    false
 }
 
 fn main(rt: HostRuntime) {
@@ -174,19 +210,14 @@ fn main(rt: HostRuntime) {
     let mut frames = [0u8; 6144];
     let mut input = [0u8; BLOCK_BYTES];
     let mut output = [0u8; BLOCK_BYTES * session_run::REPLY_BYTES];
-    let mut reader = rt.stdin();
-    let mut writer = rt.stdout();
-    let header = session_run::header();
-    if write_out(&mut writer, &rt, &header) {
-        run(
-            &mut media,
-            &mut sizes,
-            &mut frames,
-            &mut input,
-            &mut output,
-            &mut reader,
-            &mut writer,
-            &rt,
-        );
-    }
+    print_session(
+        &mut media,
+        &mut sizes,
+        &mut frames,
+        &mut input,
+        &mut output,
+        &mut rt.stdin(),
+        &mut rt.stdout(),
+        &rt,
+    );
 }

@@ -3,6 +3,6 @@ use Rattle.std.proofs.Common.{arith, refl}
 use Rattle.session_run.specs.Session.{start_device}
 use Rattle.session.proofs.main.Goals as goal
 
-pub run-requires : goal.run-requires
+pub print_session-requires : goal.print_session-requires
 unfolding start_device
-run-requires c = (refl, omega arith, omega arith)
+print_session-requires c = (refl, omega arith, omega arith)
