@@ -1,7 +1,7 @@
 /*
  * boxstore: eight files of up to 4,096 bytes on one media part, behind a cache of 24 pages, safe against loss of power.
  *
- * Link target/staticlib/libboxstore.a, which `rt staticlib boxstore` writes. The library keeps nothing between calls: the caller
+ * Link target/staticlib/libboxstore.a, which `./build boxstore` writes. The library keeps nothing between calls: the caller
  * owns all memory and lends it to each call, as a pointer and a number of elements:
  *
  *   media    32,768 bytes   the bytes of the part; byte i of file f is at 4,096 * f + i

@@ -2,7 +2,7 @@
 # The benchmark: the proved store beside the tuned one, a plain copy, plain files, LMDB and SQLite.
 # usage: interop/bench/run.sh [arguments of bench]
 # Installs liblmdb-dev and libsqlite3-dev with apt-get if they are missing. `run.sh --help` tells the arguments.
-# `rt staticlib boxstore` makes the archive; BOXSTORE_ARCHIVE_DIR names another folder to take it from.
+# `./build boxstore` makes the archive; BOXSTORE_ARCHIVE_DIR names another folder to take it from.
 set -euo pipefail
 unset CDPATH
 here=$(cd -- "$(dirname -- "$(readlink -f -- "${BASH_SOURCE[0]}")")" && pwd)

@@ -26,7 +26,7 @@ fn main() -> ExitCode {
     println!("cargo::rerun-if-changed={}", archive.display());
     if !archive.is_file() {
         eprintln!(
-            "boxstore: {} is not there.\n`rt staticlib boxstore`, run at the root of the repository, makes \
+            "boxstore: {} is not there.\n`./build boxstore`, run at the root of the repository, makes \
              target/staticlib/libboxstore.a.\nThe variable {VARIABLE} names another folder to take it from.",
             archive.display()
         );

@@ -2,7 +2,7 @@
  * The box store on append-only flash, from C: a serial is stored, the power goes amid a sync and amid a collection, and what is on
  * the part is printed after each. At the end a damaged part is refused.
  *
- *   rt staticlib boxstore
+ *   ./build boxstore
  *   gcc -std=c99 -Wall -Wextra -pedantic -Werror -Iinterop interop/c/part.c target/staticlib/libboxstore.a -o part
  *   ./part
  *

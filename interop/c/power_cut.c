@@ -2,7 +2,7 @@
  * The box store from C: a serial that survives a loss of power, a sync that the budget cuts, a look, refusals, the media writes
  * by themselves, trip lists, and the names of the answers.
  *
- *   rt staticlib boxstore
+ *   ./build boxstore
  *   gcc -std=c99 -Wall -Wextra -pedantic -Werror -Iinterop interop/c/power_cut.c target/staticlib/libboxstore.a -o power_cut
  *   ./power_cut
  *

@@ -2,7 +2,7 @@
  * Trip lists from C: the list in file 2 of a box is read, its trips are printed, and it is written back in its one spelling. Then
  * the van gets another box, and the lists of both are joined. At the end a list and a join are refused.
  *
- *   rt staticlib boxstore
+ *   ./build boxstore
  *   gcc -std=c99 -Wall -Wextra -pedantic -Werror -Iinterop interop/c/trips.c target/staticlib/libboxstore.a -o trips
  *   ./trips
  *
