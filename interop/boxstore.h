@@ -9,9 +9,7 @@
  *   frames   6,144 bytes    the bytes of the cached pages; slot k has those from 256 * k on
  *   state    137 bytes      the cache state, laid out as said below
  *
- * struct boxstore is that memory of one store, and the box_ calls lend it whole: most programs need no others. The same files on
- * append-only flash are those of the boxstore_part_ calls, of struct boxstore_part and of the box_part_ calls: see "Append-only
- * flash" below.
+ * struct boxstore is that memory of one store, and the box_ calls lend it whole: most programs need no others.
  *
  * Beside the store there are calls on trip lists, which know nothing of it: texts in memory of the caller, as from a file.
  *
@@ -44,19 +42,15 @@
  * BOXSTORE_REFUSED. Otherwise the number says why the call was refused, and is the first of these that applies (of the calls on
  * files; those from boxstore_truncate_sizes on say their own):
  *
- *   2 SHAPE     media, sizes, frames, state or part, where lent, has another length than said here; sizes_len counts numbers
- *               and not bytes: 8, not 32
- *   3 MEDIA     a stored size is above 4,096, as on a part that was never formatted (not from format, and not from a mount on
- *               append-only flash)
- *  12 DAMAGED   append-only flash: the part is damaged, or the image is another than its records make (as said below)
+ *   2 SHAPE     media, sizes, frames or state, where lent, has another length than above; sizes_len counts numbers and not bytes:
+ *               8, not 32
+ *   3 MEDIA     a stored size is above 4,096, as on a part that was never formatted (not from format)
  *   4 BOOKS     the state is not sound (not from mount or format)
  *   5 DOWN      the state is down (not from mount or format)
  *   6 NO FILE   the file number is above 7
  *   7 RANGE     a position, a size, or position + length of a write is above 4,096
  *   8 NO ROOM   a write of at least one byte whose first page is not cached while 24 pages are
- *  13 EXHAUSTED append-only flash, sync, mount and format: the programs of the whole call, whatever its budget, would need a number
- *               above 4,294,967,295
- *   9 CUT       sync, mount and format: the budget is below the media writes needed (on append-only flash below the steps)
+ *   9 CUT       sync, mount and format: the budget is below the media writes needed
  *
  * (1 is of the session program.) The calls on trip lists give SHAPE, RANGE and, for the first bad line,
  *
@@ -69,7 +63,7 @@
  *  18 TRIPS TOO LONG   the joined list is longer than 4,096 bytes
  *
  * All refusals but CUT have count 0 and leave all memory as it came. CUT has the budget as its count: that many first media
- * writes were done, or steps, and the state is down, as after a loss of power at that moment.
+ * writes were done, and the state is down, as after a loss of power at that moment.
  *
  * The cache state, byte by byte:
  *
@@ -82,39 +76,6 @@
  * The down state is 137 bytes of 0. A state is sound where its first byte and that of each slot are 0 or 1; used slots name files
  * 0 to 7 and pages 0 to 15, none twice, and free slots are three bytes of 0; of each file floor <= logical size <= 4,096 and
  * floor <= stored size; and where its first byte is 0, all others are 0 too.
- *
- * Append-only flash. Its records are programmed once, and are blank again when their block is erased. It is lent beside the media:
- *
- *   part     101,376 bytes   6 blocks of 64 records of 264 bytes; a new part is 255 in every byte
- *
- * A record of 255 in every byte is blank. The others have, at these places:
- *
- *   0   4 bytes     their number, low byte first: 1 or more, and above that of all records programmed before
- *   4   1 byte      their kind: 1 PAGE, 2 SIZE, 3 TRIM
- *   5   1 byte      the file
- *   6   2 bytes     the page, or the size, low byte first
- *   8   256 bytes   the bytes of the page; 0 in a SIZE and a TRIM
- *
- * media and sizes are the image of the part: what these media writes make of zeros, in the order of their numbers (a TRIM stores
- * its size even where that is above the size before). A mount and a format make the image anew from the part when they are done
- * or CUT, whatever was in it; all other calls need it as the last call left it. The part alone stands for what survives a loss of
- * power, and may be lent with any bytes and sizes to the mount after it.
- *
- * A media write is here the program of one record: the next of the newest block, the one with the highest numbers, or where that
- * is full the first of the lowest blank block. It gets the highest number plus 1. Before it, while fewer than 65 records are blank,
- * the oldest block is collected: its pages with a nonzero byte, by file and page, then its nonzero sizes, by file and each as a
- * SIZE, are programmed once more as they are in the image, and the block is erased. A page is of the block of its last PAGE, a size
- * of that of its last SIZE or TRIM. Each program and each erase is a step, which the part is presumed to do whole or not at all,
- * and in order. Budgets and counts are steps, and one of a budget must pay for an erase.
- *
- * The calls change the part, too, as plain memory: keep it in RAM and carry the steps of a call to the flash. Those of a call that
- * erases nothing are the records with a number above the highest before the call, by their numbers. In general the same call on a
- * copy of the memory, with a budget of n, leaves the part as it is after its first n steps.
- *
- * A part is damaged where a record has the number 0, another kind, or a file, page or size that there is not; where in a block the
- * numbers do not rise, or a blank record is before another; where the numbers of a block, from first to last, overlap those of
- * another; where another block than the newest has blank records beside others; or where fewer records are blank than a collection
- * of the oldest block would program. No call, a cut one included, leaves a part so.
  */
 #ifndef BOXSTORE_H
 #define BOXSTORE_H
@@ -131,9 +92,9 @@ extern "C" {
 #endif
 
 /* The version of this interface. */
-#define BOXSTORE_VERSION "0.4.0"
+#define BOXSTORE_VERSION "0.3.0"
 #define BOXSTORE_VERSION_MAJOR 0
-#define BOXSTORE_VERSION_MINOR 4
+#define BOXSTORE_VERSION_MINOR 3
 #define BOXSTORE_VERSION_PATCH 0
 
 #define BOXSTORE_FILES 8
@@ -143,7 +104,6 @@ extern "C" {
 #define BOXSTORE_MEDIA_BYTES 32768
 #define BOXSTORE_FRAMES_BYTES 6144
 #define BOXSTORE_STATE_BYTES 137
-#define BOXSTORE_PART_BYTES 101376
 
 /* The greatest length of a trip list, and the length of the buffer that one is written into. */
 #define BOXSTORE_LIST_BYTES 4096
@@ -157,10 +117,6 @@ extern "C" {
 /* The most media writes that a sync needs, and that a mount or a format needs: a budget that is never CUT. */
 #define BOXSTORE_SYNC_WRITES 18
 #define BOXSTORE_MOUNT_WRITES 8
-
-/* Of append-only flash: steps that a sync, and that a mount or a format never exceeds. */
-#define BOXSTORE_PART_SYNC_STEPS 2556
-#define BOXSTORE_PART_MOUNT_STEPS 1136
 
 /* An answer from here on is a refusal. */
 #define BOXSTORE_REFUSED 65536u
@@ -178,8 +134,6 @@ enum boxstore_answer_number {
     BOXSTORE_CUT = 9,
     BOXSTORE_TRIP_FORM = 10,
     BOXSTORE_TRIP_ORDER = 11,
-    BOXSTORE_DAMAGED = 12,
-    BOXSTORE_EXHAUSTED = 13,
     BOXSTORE_TRIP_CONFLICT = 17,
     BOXSTORE_TRIPS_TOO_LONG = 18
 };
@@ -203,8 +157,6 @@ static inline const char *boxstore_name(uint32_t answer)
     case BOXSTORE_CUT: return "CUT";
     case BOXSTORE_TRIP_FORM: return "TRIP FORM";
     case BOXSTORE_TRIP_ORDER: return "TRIP ORDER";
-    case BOXSTORE_DAMAGED: return "DAMAGED";
-    case BOXSTORE_EXHAUSTED: return "EXHAUSTED";
     case BOXSTORE_TRIP_CONFLICT: return "TRIP CONFLICT";
     case BOXSTORE_TRIPS_TOO_LONG: return "TRIPS TOO LONG";
     default: return "unknown";
@@ -221,11 +173,9 @@ static inline const char *boxstore_meaning(uint32_t answer)
     case BOXSTORE_NO_FILE: return "the file number is above 7";
     case BOXSTORE_RANGE: return "a position, a size, or the end of a write is above its limit";
     case BOXSTORE_NO_ROOM: return "the first page of the write is not cached, while 24 others are";
-    case BOXSTORE_CUT: return "the budget was below the media writes or steps needed; the device is down";
+    case BOXSTORE_CUT: return "the budget was below the media writes needed; the device is down";
     case BOXSTORE_TRIP_FORM: return "a line of the trip list lacks the form minute,metres,driver";
     case BOXSTORE_TRIP_ORDER: return "the minute of a trip is not above that of the line before";
-    case BOXSTORE_DAMAGED: return "the part is damaged, or its image is another than its records make";
-    case BOXSTORE_EXHAUSTED: return "the part has too few running numbers left for the call";
     case BOXSTORE_TRIP_CONFLICT: return "the lists have trips of the same minute that differ in metres or driver";
     case BOXSTORE_TRIPS_TOO_LONG: return "the joined list is longer than 4,096 bytes";
     default: return "no call gives this answer";
@@ -295,42 +245,6 @@ static inline const uint8_t *boxstore_looked_at(uint64_t look, const uint8_t *me
     return ((look >> 16) & 1 ? frames : media) + (size_t)(look >> 32);
 }
 static inline size_t boxstore_looked_len(uint64_t look) { return (size_t)(look & 65535u); }
-
-/* The calls on append-only flash: as the ones above with the same end of their name, but for the part and its image.
- *
- * Format: empties all files, by one TRIM for each file that has a nonzero byte or a nonzero size; the device is down after it.
- * Counts the steps. A new part needs none: 255 in every byte, it has eight empty files. */
-uint32_t boxstore_part_format(uint8_t *part, size_t part_len, uint8_t *media, size_t media_len,
-                              uint32_t *sizes, size_t sizes_len, uint8_t *state, size_t state_len, size_t budget);
-
-/* Mount: makes the image anew, clears the bytes past a stored size, by one TRIM for each file that has a nonzero one there, and
- * brings the device up. Counts the steps. */
-uint32_t boxstore_part_mount(uint8_t *part, size_t part_len, uint8_t *media, size_t media_len,
-                             uint32_t *sizes, size_t sizes_len, uint8_t *state, size_t state_len, size_t budget);
-
-/* Read, write, truncate and the looks leave part and image as they are. A look names a place of the media or the frames. */
-uint32_t boxstore_part_read(const uint8_t *part, size_t part_len, const uint8_t *media, size_t media_len,
-                            const uint32_t *sizes, size_t sizes_len, const uint8_t *frames, size_t frames_len,
-                            const uint8_t *state, size_t state_len, size_t file, size_t position,
-                            uint8_t *buffer, size_t buffer_len);
-uint32_t boxstore_part_write(const uint8_t *part, size_t part_len, const uint8_t *media, size_t media_len,
-                             const uint32_t *sizes, size_t sizes_len, uint8_t *frames, size_t frames_len,
-                             uint8_t *state, size_t state_len, size_t file, size_t position,
-                             const uint8_t *bytes, size_t bytes_len);
-uint32_t boxstore_part_truncate(const uint8_t *part, size_t part_len, const uint8_t *media, size_t media_len,
-                                const uint32_t *sizes, size_t sizes_len, uint8_t *frames, size_t frames_len,
-                                uint8_t *state, size_t state_len, size_t file, size_t n);
-uint32_t boxstore_part_look_count(const uint8_t *part, size_t part_len, const uint8_t *media, size_t media_len,
-                                  const uint32_t *sizes, size_t sizes_len, const uint8_t *frames, size_t frames_len,
-                                  const uint8_t *state, size_t state_len, size_t file, size_t position);
-uint64_t boxstore_part_look(const uint8_t *part, size_t part_len, const uint8_t *media, size_t media_len,
-                            const uint32_t *sizes, size_t sizes_len, const uint8_t *frames, size_t frames_len,
-                            const uint8_t *state, size_t state_len, size_t file, size_t position);
-
-/* Sync: programs the media writes of a file, with the collections before them, and brings the image along. Counts the steps. */
-uint32_t boxstore_part_sync(uint8_t *part, size_t part_len, uint8_t *media, size_t media_len,
-                            uint32_t *sizes, size_t sizes_len, const uint8_t *frames, size_t frames_len,
-                            uint8_t *state, size_t state_len, size_t file, size_t budget);
 
 /* The truncate rule on the sizes of one file: three numbers, logical size, floor and stored size, and the greatest file size.
  * SHAPE where there are not three; BOOKS unless floor <= logical size <= greatest and floor <= stored size; RANGE where n is
@@ -454,93 +368,6 @@ static inline uint32_t box_size(const struct boxstore *store, size_t file)
 {
     uint32_t answer = box_look_count(store, file, 0);
     return answer >= BOXSTORE_REFUSED ? answer : (uint32_t)boxstore_logical_size(store->state, file);
-}
-
-/* The memory of one store on append-only flash. A box that is all zeros, as a static one begins, is down; the part is filled from
- * the flash, or made a new one. */
-struct boxstore_part {
-    uint8_t part[BOXSTORE_PART_BYTES];
-    struct boxstore box;
-};
-
-/* Blank: the part becomes a new one, 255 in every byte. */
-static inline void box_part_blank(struct boxstore_part *store)
-{
-    size_t i;
-    for (i = 0; i < BOXSTORE_PART_BYTES; i++)
-        store->part[i] = 255;
-}
-
-/* The calls on it, never SHAPE. Down is box_down(&store->box). */
-static inline uint32_t box_part_format(struct boxstore_part *store, size_t budget)
-{
-    return boxstore_part_format(store->part, BOXSTORE_PART_BYTES, store->box.media, BOXSTORE_MEDIA_BYTES,
-                                store->box.sizes, BOXSTORE_FILES, store->box.state, BOXSTORE_STATE_BYTES, budget);
-}
-
-static inline uint32_t box_part_mount(struct boxstore_part *store, size_t budget)
-{
-    return boxstore_part_mount(store->part, BOXSTORE_PART_BYTES, store->box.media, BOXSTORE_MEDIA_BYTES,
-                               store->box.sizes, BOXSTORE_FILES, store->box.state, BOXSTORE_STATE_BYTES, budget);
-}
-
-static inline uint32_t box_part_read(const struct boxstore_part *store, size_t file, size_t position,
-                                     void *buffer, size_t buffer_len)
-{
-    return boxstore_part_read(store->part, BOXSTORE_PART_BYTES, store->box.media, BOXSTORE_MEDIA_BYTES,
-                              store->box.sizes, BOXSTORE_FILES, store->box.frames, BOXSTORE_FRAMES_BYTES,
-                              store->box.state, BOXSTORE_STATE_BYTES, file, position, (uint8_t *)buffer, buffer_len);
-}
-
-static inline uint32_t box_part_write(struct boxstore_part *store, size_t file, size_t position,
-                                      const void *bytes, size_t bytes_len)
-{
-    return boxstore_part_write(store->part, BOXSTORE_PART_BYTES, store->box.media, BOXSTORE_MEDIA_BYTES,
-                               store->box.sizes, BOXSTORE_FILES, store->box.frames, BOXSTORE_FRAMES_BYTES,
-                               store->box.state, BOXSTORE_STATE_BYTES, file, position, (const uint8_t *)bytes, bytes_len);
-}
-
-static inline uint32_t box_part_truncate(struct boxstore_part *store, size_t file, size_t n)
-{
-    return boxstore_part_truncate(store->part, BOXSTORE_PART_BYTES, store->box.media, BOXSTORE_MEDIA_BYTES,
-                                  store->box.sizes, BOXSTORE_FILES, store->box.frames, BOXSTORE_FRAMES_BYTES,
-                                  store->box.state, BOXSTORE_STATE_BYTES, file, n);
-}
-
-static inline uint32_t box_part_sync(struct boxstore_part *store, size_t file, size_t budget)
-{
-    return boxstore_part_sync(store->part, BOXSTORE_PART_BYTES, store->box.media, BOXSTORE_MEDIA_BYTES,
-                              store->box.sizes, BOXSTORE_FILES, store->box.frames, BOXSTORE_FRAMES_BYTES,
-                              store->box.state, BOXSTORE_STATE_BYTES, file, budget);
-}
-
-static inline uint32_t box_part_look_count(const struct boxstore_part *store, size_t file, size_t position)
-{
-    return boxstore_part_look_count(store->part, BOXSTORE_PART_BYTES, store->box.media, BOXSTORE_MEDIA_BYTES,
-                                    store->box.sizes, BOXSTORE_FILES, store->box.frames, BOXSTORE_FRAMES_BYTES,
-                                    store->box.state, BOXSTORE_STATE_BYTES, file, position);
-}
-
-/* Look: as box_look, with the refusals of box_part_look_count. */
-static inline uint32_t box_part_look(const struct boxstore_part *store, size_t file, size_t position, const uint8_t **bytes)
-{
-    uint64_t look = boxstore_part_look(store->part, BOXSTORE_PART_BYTES, store->box.media, BOXSTORE_MEDIA_BYTES,
-                                       store->box.sizes, BOXSTORE_FILES, store->box.frames, BOXSTORE_FRAMES_BYTES,
-                                       store->box.state, BOXSTORE_STATE_BYTES, file, position);
-    if (look == 0) {
-        uint32_t answer = box_part_look_count(store, file, position);
-        if (answer >= BOXSTORE_REFUSED)
-            return answer;
-    }
-    *bytes = boxstore_looked_at(look, store->box.media, store->box.frames);
-    return (uint32_t)boxstore_looked_len(look);
-}
-
-/* Size: as box_size. */
-static inline uint32_t box_part_size(const struct boxstore_part *store, size_t file)
-{
-    uint32_t answer = box_part_look_count(store, file, 0);
-    return answer >= BOXSTORE_REFUSED ? answer : (uint32_t)boxstore_logical_size(store->box.state, file);
 }
 
 /* A trip. The driver is in the list, and no NUL ends it: printf("%.*s", (int)trip.letters, trip.driver). */

@@ -4,8 +4,6 @@
 
 mod lists;
 mod others;
-#[cfg(feature = "part")]
-mod parts;
 mod scenario;
 mod timing;
 
@@ -17,8 +15,6 @@ use std::time::Duration;
 use layout::{FILE_BYTES, PAGE_BYTES};
 use random_calls::store_of;
 use random_lists::trip_lists_by;
-#[cfg(feature = "part")]
-use random_parts::part_store_of;
 
 use others::{Named, Other, Room};
 use scenario::{different, Calls, Run, Scenario, Step, Work};
@@ -42,12 +38,6 @@ store_of!(
 trip_lists_by!(Proved, boxstore::raw);
 trip_lists_by!(Tuned, tuned::trips);
 trip_lists_by!(ByWords, tuned::trip_words);
-#[cfg(feature = "part")]
-part_store_of!(Proved, boxstore::part_calls);
-#[cfg(feature = "part")]
-part_store_of!(Tuned, tuned::part);
-#[cfg(feature = "part")]
-part_store_of!(ByWords, tuned::part);
 
 const TUNED: &str = "tuned";
 const BY_WORDS: &str = "by words";

@@ -11,24 +11,11 @@ use random_lists::TripLists;
 use random_sessions::rng::Rng;
 
 use crate::lists::{lists, pairs, Parting, Spelling, LISTS};
-#[cfg(feature = "part")]
-use crate::parts::{self, Changes};
-#[cfg(feature = "part")]
-use layout::{BLANK, PART_BYTES, PART_MOUNT_STEPS};
-#[cfg(feature = "part")]
-use random_parts::PartStore;
 
 /// All calls of `boxstore.h`.
-#[cfg(not(feature = "part"))]
 pub trait Calls: Store + TripLists {}
-#[cfg(not(feature = "part"))]
-impl<S: Store + TripLists> Calls for S {}
 
-/// All calls of `boxstore.h`.
-#[cfg(feature = "part")]
-pub trait Calls: Store + TripLists + PartStore {}
-#[cfg(feature = "part")]
-impl<S: Store + TripLists + PartStore> Calls for S {}
+impl<S: Store + TripLists> Calls for S {}
 
 /// One step of a scenario.
 #[derive(Clone, Copy, Debug)]
@@ -110,41 +97,6 @@ pub enum Step {
     /// No call: puts two pages past the stored size of file 3, as a sync that
     /// was cut leaves them. 512 bytes are copied, on both sides alike.
     LeaveTail,
-    /// Mount of a part.
-    #[cfg(feature = "part")]
-    PartMount,
-    /// As `Read`, on a part.
-    #[cfg(feature = "part")]
-    PartRead {
-        /// File number.
-        file: usize,
-        /// Position of the first byte.
-        position: usize,
-        /// Number of bytes.
-        length: usize,
-    },
-    /// As `Write`, on a part.
-    #[cfg(feature = "part")]
-    PartWrite {
-        /// File number.
-        file: usize,
-        /// Position of the first byte.
-        position: usize,
-        /// Number of bytes.
-        length: usize,
-    },
-    /// As `Sync`, on a part.
-    #[cfg(feature = "part")]
-    PartSync {
-        /// File number.
-        file: usize,
-        /// Steps allowed.
-        budget: usize,
-    },
-    /// No call: puts back what the steps before changed of a part and its image,
-    /// a copy on both sides alike.
-    #[cfg(feature = "part")]
-    PutBack,
 }
 
 /// A list of steps, with what the device is before the first of them.
@@ -164,8 +116,6 @@ impl Scenario {
     pub fn calls(&self) -> usize {
         let calls = |&step: &Step| match step {
             Step::LeaveTail => 0,
-            #[cfg(feature = "part")]
-            Step::PutBack => 0,
             // one more finds the end
             Step::WalkTrips { list } => trips(&self.lists[list]) + 1,
             _ => 1,
@@ -183,14 +133,6 @@ impl Scenario {
         let mut run = Run::new(&self.lists);
         for &step in &self.prepare {
             run.step::<S>(step);
-        }
-        #[cfg(feature = "part")]
-        if let Some((Step::PutBack, steps)) = self.steps.split_last() {
-            let mut after = run.clone();
-            for &step in steps {
-                after.step::<S>(step);
-            }
-            run.changes = Changes::new(&run, &after);
         }
         run
     }
@@ -214,12 +156,6 @@ pub struct Run {
     source: Vec<u8>,
     /// Trip lists.
     lists: Vec<Vec<u8>>,
-    /// An append-only part.
-    #[cfg(feature = "part")]
-    pub part: Vec<u8>,
-    /// What a pass changes of it.
-    #[cfg(feature = "part")]
-    changes: Changes,
 }
 
 impl Run {
@@ -232,10 +168,6 @@ impl Run {
             source: (0..FILE_BYTES).map(|_| rng.between(1, 255) as u8).collect(),
             trip: [0; TRIP_NUMBERS],
             lists: lists.to_vec(),
-            #[cfg(feature = "part")]
-            part: vec![BLANK; PART_BYTES],
-            #[cfg(feature = "part")]
-            changes: Changes::default(),
         }
     }
 
@@ -244,15 +176,15 @@ impl Run {
     pub fn step<S: Calls>(&mut self, step: Step) -> u64 {
         let memory = &mut self.memory;
         match step {
-            Step::Format => <S as Store>::format(memory.lend_mut(), MOUNT_WRITES).into(),
-            Step::Mount => <S as Store>::mount(memory.lend_mut(), MOUNT_WRITES).into(),
+            Step::Format => S::format(memory.lend_mut(), MOUNT_WRITES).into(),
+            Step::Mount => S::mount(memory.lend_mut(), MOUNT_WRITES).into(),
             Step::Read {
                 file,
                 position,
                 length,
             } => {
                 let buffer = &mut self.buffer[..length];
-                <S as Store>::read(memory.lend(), file, position, buffer).into()
+                S::read(memory.lend(), file, position, buffer).into()
             }
             Step::Write {
                 file,
@@ -260,15 +192,13 @@ impl Run {
                 length,
             } => {
                 let bytes = &self.source[..length];
-                <S as Store>::write(memory.lend_mut(), file, position, bytes).into()
+                S::write(memory.lend_mut(), file, position, bytes).into()
             }
-            Step::Truncate { file, n } => <S as Store>::truncate(memory.lend_mut(), file, n).into(),
-            Step::Sync { file, budget } => {
-                <S as Store>::sync(memory.lend_mut(), file, budget).into()
-            }
-            Step::Look { file, position } => <S as Store>::look(memory.lend(), file, position),
+            Step::Truncate { file, n } => S::truncate(memory.lend_mut(), file, n).into(),
+            Step::Sync { file, budget } => S::sync(memory.lend_mut(), file, budget).into(),
+            Step::Look { file, position } => S::look(memory.lend(), file, position),
             Step::LookCount { file, position } => {
-                <S as Store>::look_count(memory.lend(), file, position).into()
+                S::look_count(memory.lend(), file, position).into()
             }
             Step::ReadTrip { list, place } => {
                 S::read_trip(&self.lists[list], place, &mut self.trip).into()
@@ -287,39 +217,6 @@ impl Run {
                 memory.media[at..at + 512].copy_from_slice(&self.source[..512]);
                 0
             }
-            #[cfg(feature = "part")]
-            Step::PartMount => {
-                <S as PartStore>::mount(&mut self.part, memory.lend_mut(), PART_MOUNT_STEPS).into()
-            }
-            #[cfg(feature = "part")]
-            Step::PartRead {
-                file,
-                position,
-                length,
-            } => {
-                let buffer = &mut self.buffer[..length];
-                <S as PartStore>::read(&self.part, memory.lend(), file, position, buffer).into()
-            }
-            #[cfg(feature = "part")]
-            Step::PartWrite {
-                file,
-                position,
-                length,
-            } => {
-                let bytes = &self.source[..length];
-                <S as PartStore>::write(&self.part, memory.lend_mut(), file, position, bytes).into()
-            }
-            #[cfg(feature = "part")]
-            Step::PartSync { file, budget } => {
-                <S as PartStore>::sync(&mut self.part, memory.lend_mut(), file, budget).into()
-            }
-            #[cfg(feature = "part")]
-            Step::PutBack => {
-                let part = &mut self.part;
-                self.changes
-                    .put_back(part, &mut memory.media, &mut memory.state);
-                0
-            }
         }
     }
 
@@ -334,8 +231,6 @@ impl Run {
         black_box(&mut self.memory);
         black_box(&mut self.buffer);
         black_box(&mut self.trip);
-        #[cfg(feature = "part")]
-        black_box(&mut self.part);
     }
 
     /// The plain work of a step, at the least:
@@ -462,10 +357,6 @@ pub fn different(one: &Run, two: &Run) -> Option<String> {
     if one.trip != two.trip {
         return Some("trips".to_owned());
     }
-    #[cfg(feature = "part")]
-    if one.part != two.part {
-        return Some("parts".to_owned());
-    }
     one.memory.difference(&two.memory, true)
 }
 
@@ -501,20 +392,6 @@ fn started(steps: &[Step]) -> Vec<Step> {
 
 /// All scenarios, in the order of the table.
 pub fn all() -> Vec<Scenario> {
-    let scenarios = scenarios_without_part();
-    #[cfg(feature = "part")]
-    let scenarios = scenarios.into_iter().chain(scenarios_on_parts()).collect();
-    scenarios
-}
-
-/// Those on append-only flash.
-#[cfg(feature = "part")]
-pub fn scenarios_on_parts() -> impl Iterator<Item = Scenario> {
-    let all = parts::all().into_iter();
-    all.map(|(name, prepare, steps)| on_files(name, prepare, steps))
-}
-
-fn scenarios_without_part() -> Vec<Scenario> {
     let (plain, zeros) = (lists(Spelling::Plain), lists(Spelling::Zeros));
     vec![
         on_files(

@@ -2,11 +2,11 @@
 
 use core::fmt;
 
-use crate::storage::{Media, Memory, Storage, LOST};
 use crate::{raw, Error, FILES, FRAMES_BYTES, MEDIA_BYTES, SLOTS, STATE_BYTES, STATE_MOUNTED};
-#[cfg(feature = "part")]
-use crate::{storage::Flash, PART_BYTES};
 use layout::{logical_at, size, slot_at};
+
+/// What the frames hold after a loss of power: neither zeros nor text.
+const LOST: u8 = 0xa5;
 
 /// A store of eight files, with the memory that it works on.
 ///
@@ -17,63 +17,23 @@ use layout::{logical_at, size, slot_at};
 ///
 /// The memory is inline, 39,084 bytes. Where the stack is too small for it, the
 /// device is a `static`, or in a `Box`.
-///
-/// The storage `S` is [`Media`], or [`Flash`](crate::Flash) in a
-/// [`PartDevice`](crate::PartDevice).
 #[derive(Clone)]
-pub struct Device<S = Media> {
-    storage: S,
-    memory: Memory,
-}
-
-/// A store of eight files on append-only flash, with the memory that it works on.
-/// Needs the feature `part`.
-///
-/// The part stands for what survives a loss of power. Media and stored sizes are
-/// its image: a mount makes them anew from the part. The budgets and counts of
-/// sync, mount and format are steps: programs of a record, and erases of a block.
-/// `boxstore.h` says which ones a call makes.
-///
-/// The memory is inline, 140,460 bytes.
-///
-/// ```
-/// use boxstore::{PartDevice, PART_MOUNT_STEPS, PART_SYNC_STEPS};
-///
-/// # fn main() -> Result<(), boxstore::Error> {
-/// let mut device = PartDevice::blank();
-/// device.mount(PART_MOUNT_STEPS)?;
-/// device.write(0, 0, b"SN-000042-A7")?;
-/// assert_eq!(device.sync(0, PART_SYNC_STEPS)?, 2);
-/// let part = device.into_part();
-///
-/// let mut device = PartDevice::from_part(&part)?;
-/// device.mount(PART_MOUNT_STEPS)?;
-/// assert_eq!(device.look(0, 0)?, b"SN-000042-A7");
-/// # Ok(())
-/// # }
-/// ```
-#[cfg(feature = "part")]
-pub type PartDevice = Device<Flash>;
-
-impl<S> Device<S> {
-    /// A device on a storage, with media all 0, down.
-    const fn on(storage: S) -> Device<S> {
-        Device {
-            storage,
-            memory: Memory {
-                media: [0; MEDIA_BYTES],
-                sizes: [0; FILES],
-                frames: [0; FRAMES_BYTES],
-                state: [0; STATE_BYTES],
-            },
-        }
-    }
+pub struct Device {
+    media: [u8; MEDIA_BYTES],
+    sizes: [u32; FILES],
+    frames: [u8; FRAMES_BYTES],
+    state: [u8; STATE_BYTES],
 }
 
 impl Device {
     /// A device whose media are all 0, down. All its files are empty.
     pub const fn new() -> Device {
-        Device::on(Media)
+        Device {
+            media: [0; MEDIA_BYTES],
+            sizes: [0; FILES],
+            frames: [0; FRAMES_BYTES],
+            state: [0; STATE_BYTES],
+        }
     }
 
     /// A device with these media and stored sizes, down: one that is met after
@@ -99,89 +59,48 @@ impl Device {
     /// ```
     pub fn from_media(media: &[u8], sizes: [u32; FILES]) -> Result<Device, Error> {
         let mut device = Device::new();
-        device.memory.media = media.try_into().map_err(|_| Error::Shape)?;
-        device.memory.sizes = sizes;
+        device.media = media.try_into().map_err(|_| Error::Shape)?;
+        device.sizes = sizes;
         Ok(device)
     }
 
     /// The media and the stored sizes: what survives a loss of power. What was
     /// not synced is gone.
     pub fn into_media(self) -> ([u8; MEDIA_BYTES], [u32; FILES]) {
-        (self.memory.media, self.memory.sizes)
+        (self.media, self.sizes)
+    }
+
+    /// The bytes of the media.
+    pub fn media(&self) -> &[u8; MEDIA_BYTES] {
+        &self.media
+    }
+
+    /// The stored size of each file.
+    pub fn sizes(&self) -> &[u32; FILES] {
+        &self.sizes
+    }
+
+    /// The cache state: [`STATE_SLOTS`](crate::STATE_SLOTS) and the others say
+    /// where its parts begin.
+    pub fn state(&self) -> &[u8; STATE_BYTES] {
+        &self.state
+    }
+
+    /// The bytes of the cached pages; slot k has those from 256 * k on.
+    pub fn frames(&self) -> &[u8; FRAMES_BYTES] {
+        &self.frames
     }
 
     /// [Cuts the power](Device::cut_power), and lends the media and the stored
     /// sizes: to be filled in place, as from a part that is read at the start.
     pub fn media_mut(&mut self) -> (&mut [u8; MEDIA_BYTES], &mut [u32; FILES]) {
         self.cut_power();
-        (&mut self.memory.media, &mut self.memory.sizes)
-    }
-}
-
-#[cfg(feature = "part")]
-impl PartDevice {
-    /// A device with a new part, 255 in every byte, down. All its files are
-    /// empty.
-    pub const fn blank() -> PartDevice {
-        Device::on(Flash {
-            part: [layout::BLANK; PART_BYTES],
-        })
-    }
-
-    /// A device with this part, down: one that is met after a loss of power.
-    ///
-    /// [`Error::Shape`] where the part is not [`PART_BYTES`] long. Its bytes are
-    /// free; a mount refuses a part that is damaged.
-    pub fn from_part(part: &[u8]) -> Result<PartDevice, Error> {
-        let part = part.try_into().map_err(|_| Error::Shape)?;
-        let mut device = Device::on(Flash { part });
-        device.cut_power();
-        Ok(device)
-    }
-
-    /// The part: what survives a loss of power. What was not synced is gone.
-    pub fn into_part(self) -> [u8; PART_BYTES] {
-        self.storage.part
-    }
-
-    /// The bytes of the part.
-    pub fn part(&self) -> &[u8; PART_BYTES] {
-        &self.storage.part
-    }
-
-    /// [Cuts the power](Device::cut_power), and lends the part: to be filled in
-    /// place, as from flash that is read at the start.
-    pub fn part_mut(&mut self) -> &mut [u8; PART_BYTES] {
-        self.cut_power();
-        &mut self.storage.part
-    }
-}
-
-impl<S: Storage> Device<S> {
-    /// The bytes of the media.
-    pub fn media(&self) -> &[u8; MEDIA_BYTES] {
-        &self.memory.media
-    }
-
-    /// The stored size of each file.
-    pub fn sizes(&self) -> &[u32; FILES] {
-        &self.memory.sizes
-    }
-
-    /// The cache state: [`STATE_SLOTS`](crate::STATE_SLOTS) and the others say
-    /// where its parts begin.
-    pub fn state(&self) -> &[u8; STATE_BYTES] {
-        &self.memory.state
-    }
-
-    /// The bytes of the cached pages; slot k has those from 256 * k on.
-    pub fn frames(&self) -> &[u8; FRAMES_BYTES] {
-        &self.memory.frames
+        (&mut self.media, &mut self.sizes)
     }
 
     /// Whether the device is mounted.
     pub fn is_mounted(&self) -> bool {
-        self.memory.state[STATE_MOUNTED] == 1
+        self.state[STATE_MOUNTED] == 1
     }
 
     /// The number of pages that are cached, [`SLOTS`] at most. A write that
@@ -189,7 +108,7 @@ impl<S: Storage> Device<S> {
     /// file.
     pub fn cached_pages(&self) -> usize {
         (0..SLOTS)
-            .filter(|&slot| self.memory.state[slot_at(slot)] == 1)
+            .filter(|&slot| self.state[slot_at(slot)] == 1)
             .count()
     }
 
@@ -197,28 +116,46 @@ impl<S: Storage> Device<S> {
     pub fn len(&self, file: usize) -> Result<usize, Error> {
         // a look at 0 has the refusals of a read
         self.look_count(file, 0)?;
-        Ok(size(&self.memory.state, logical_at(file)))
+        Ok(size(&self.state, logical_at(file)))
     }
 
     /// Empties all files, in at most `budget` media writes, and answers how
     /// many it made. The device is down after it. For new media, and only
     /// there: it ends what the files hold.
     pub fn format(&mut self, budget: usize) -> Result<usize, Error> {
-        Error::decode(self.storage.format(&mut self.memory, budget))
+        Error::decode(raw::format(
+            &mut self.media,
+            &mut self.sizes,
+            &mut self.state,
+            budget,
+        ))
     }
 
     /// Brings the device up, in at most `budget` media writes, and answers how
     /// many it made. No page is cached after it: where the device was up, what
     /// was not synced is gone.
     pub fn mount(&mut self, budget: usize) -> Result<usize, Error> {
-        Error::decode(self.storage.mount(&mut self.memory, budget))
+        Error::decode(raw::mount(
+            &mut self.media,
+            &mut self.sizes,
+            &mut self.state,
+            budget,
+        ))
     }
 
     /// Copies bytes of a file, from a position on, into the front of the
     /// buffer: as many as it takes, up to the logical size. Answers how many;
     /// 0 at or past the logical size. The rest of the buffer keeps its bytes.
     pub fn read(&self, file: usize, position: usize, buffer: &mut [u8]) -> Result<usize, Error> {
-        Error::decode(self.storage.read(&self.memory, file, position, buffer))
+        Error::decode(raw::read(
+            &self.media,
+            &self.sizes,
+            &self.frames,
+            &self.state,
+            file,
+            position,
+            buffer,
+        ))
     }
 
     /// All bytes of a file. Needs the feature `std`.
@@ -251,21 +188,42 @@ impl<S: Storage> Device<S> {
     /// # }
     /// ```
     pub fn write(&mut self, file: usize, position: usize, bytes: &[u8]) -> Result<usize, Error> {
-        let answer = self.storage.write(&mut self.memory, file, position, bytes);
-        Error::decode(answer)
+        Error::decode(raw::write(
+            &self.media,
+            &self.sizes,
+            &mut self.frames,
+            &mut self.state,
+            file,
+            position,
+            bytes,
+        ))
     }
 
     /// The file has `n` bytes after it: it is cut, or filled with zeros. Like
     /// a write, it reaches the media with the next sync of the file.
     pub fn truncate(&mut self, file: usize, n: usize) -> Result<(), Error> {
-        let answer = self.storage.truncate(&mut self.memory, file, n);
+        let answer = raw::truncate(
+            &self.media,
+            &self.sizes,
+            &mut self.frames,
+            &mut self.state,
+            file,
+            n,
+        );
         Error::decode(answer).map(drop)
     }
 
     /// Stores a file, in at most `budget` media writes, and answers how many
     /// it made. Its cached pages are free after it.
     pub fn sync(&mut self, file: usize, budget: usize) -> Result<usize, Error> {
-        Error::decode(self.storage.sync(&mut self.memory, file, budget))
+        Error::decode(raw::sync(
+            &mut self.media,
+            &mut self.sizes,
+            &self.frames,
+            &mut self.state,
+            file,
+            budget,
+        ))
     }
 
     /// The bytes of a file from a position on, to the end of their page at
@@ -275,28 +233,39 @@ impl<S: Storage> Device<S> {
     /// or empty: the bytes that are left up to that count are zeros which no
     /// buffer has.
     pub fn look(&self, file: usize, position: usize) -> Result<&[u8], Error> {
-        let look = self.storage.look(&self.memory, file, position);
-        let bytes = raw::looked(look, &self.memory.media, &self.memory.frames);
-        if bytes.is_empty() {
+        let look = raw::look(
+            &self.media,
+            &self.sizes,
+            &self.frames,
+            &self.state,
+            file,
+            position,
+        );
+        let part = raw::looked(look, &self.media, &self.frames);
+        if part.is_empty() {
             self.look_count(file, position)?;
         }
-        Ok(bytes)
+        Ok(part)
     }
 
     /// The number of bytes from a position to the end of its page or to the
     /// logical size, the nearer; 0 at or past the logical size.
     pub fn look_count(&self, file: usize, position: usize) -> Result<usize, Error> {
-        Error::decode(self.storage.look_count(&self.memory, file, position))
+        Error::decode(raw::look_count(
+            &self.media,
+            &self.sizes,
+            &self.frames,
+            &self.state,
+            file,
+            position,
+        ))
     }
 
     /// The power goes: the media stay, the cached pages are lost, and the
-    /// device is down. Of a [`PartDevice`](crate::PartDevice) the part stays, and
-    /// its image is lost as well: up to the next mount or format all other calls
-    /// are refused as [`Error::Damaged`].
+    /// device is down.
     pub fn cut_power(&mut self) {
-        S::lose(&mut self.memory);
-        self.memory.frames.fill(LOST);
-        self.memory.state.fill(0);
+        self.frames.fill(LOST);
+        self.state.fill(0);
     }
 }
 
@@ -306,21 +275,21 @@ impl Default for Device {
     }
 }
 
-impl<S: Storage> fmt::Debug for Device<S> {
+impl fmt::Debug for Device {
     fn fmt(&self, f: &mut fmt::Formatter<'_>) -> fmt::Result {
-        f.debug_struct(S::DEVICE)
+        f.debug_struct("Device")
             .field("mounted", &self.is_mounted())
             .field("logical", &Logical(self))
-            .field("stored", self.sizes())
+            .field("stored", &self.sizes)
             .field("cached_pages", &self.cached_pages())
             .finish_non_exhaustive()
     }
 }
 
 /// The logical sizes of a device, none where they are refused.
-struct Logical<'a, S>(&'a Device<S>);
+struct Logical<'a>(&'a Device);
 
-impl<S: Storage> fmt::Debug for Logical<'_, S> {
+impl fmt::Debug for Logical<'_> {
     fn fmt(&self, f: &mut fmt::Formatter<'_>) -> fmt::Result {
         let sizes = (0..FILES).flat_map(|file| self.0.len(file));
         f.debug_list().entries(sizes).finish()
@@ -337,16 +306,16 @@ mod tests {
         let mut device = Device::new();
         device.mount(MOUNT_WRITES).unwrap();
         device.write(3, 0, &[7; 600]).unwrap();
-        assert!(device.frames().contains(&7));
+        assert!(device.frames.contains(&7));
         device.cut_power();
-        assert!(device.frames().iter().all(|&byte| byte == LOST));
-        assert_eq!(device.state(), &[0; STATE_BYTES]);
+        assert!(device.frames.iter().all(|&byte| byte == LOST));
+        assert_eq!(device.state, [0; STATE_BYTES]);
     }
 
     #[test]
     fn a_new_device_is_in_the_down_state() {
         let mut state = [1; STATE_BYTES];
         assert_eq!(raw::down(&mut state), 0);
-        assert_eq!(Device::new().state(), &state);
+        assert_eq!(Device::new().state, state);
     }
 }

@@ -3,9 +3,8 @@
 use core::fmt;
 
 /// Why a call was refused. All but [`Error::Cut`] leave everything as it was.
-/// [`Device`](crate::Device) and `PartDevice` give SHAPE from `from_media` and
-/// `from_part` alone, and BOOKS never; DAMAGED and EXHAUSTED are of append-only
-/// flash; the calls on trip lists give RANGE and those whose name begins so.
+/// [`Device`](crate::Device) gives SHAPE from `from_media` alone, and BOOKS never;
+/// the calls on trip lists give RANGE and those from TRIP FORM on.
 ///
 /// `Display` and `Debug` print the same words, so that a `main` which returns
 /// an error tells what it means.
@@ -29,11 +28,10 @@ pub enum Error {
     /// NO ROOM (8): the first page of a write is not cached, while 24 others
     /// are. Sync a file first.
     NoRoom,
-    /// CUT (9): the budget was below the media writes needed, on append-only
-    /// flash below the steps. The device is down, as after a loss of power at
-    /// that moment: mount it.
+    /// CUT (9): the budget was below the media writes needed. The device is
+    /// down, as after a loss of power at that moment: mount it.
     Cut {
-        /// The media writes or steps that were done, as many as the budget.
+        /// The media writes that were done, as many as the budget.
         done: usize,
     },
     /// TRIP FORM (10): a line of the trip list lacks the form
@@ -42,12 +40,6 @@ pub enum Error {
     /// TRIP ORDER (11): the minute of a trip is not above that of the line
     /// before.
     TripOrder,
-    /// DAMAGED (12): the records of an append-only part are none that the store
-    /// leaves, or the image is another than they make.
-    Damaged,
-    /// EXHAUSTED (13): an append-only part has too few running numbers left for
-    /// the call.
-    Exhausted,
     /// TRIP CONFLICT (17): the lists have trips of the same minute that differ in
     /// metres or driver.
     TripConflict,
@@ -56,7 +48,7 @@ pub enum Error {
 }
 
 impl Error {
-    /// The number of the refusal: 2 to 13, 17 or 18.
+    /// The number of the refusal: 2 to 11, 17 or 18.
     pub fn number(self) -> u32 {
         match self {
             Error::Shape => 2,
@@ -69,8 +61,6 @@ impl Error {
             Error::Cut { .. } => 9,
             Error::TripForm => 10,
             Error::TripOrder => 11,
-            Error::Damaged => 12,
-            Error::Exhausted => 13,
             Error::TripConflict => 17,
             Error::TripsTooLong => 18,
         }
@@ -82,7 +72,7 @@ impl Error {
     ///
     /// # Panics
     ///
-    /// Where the number is none of 0, 2 to 13, 17 and 18. No call gives such an
+    /// Where the number is none of 0, 2 to 11, 17 and 18. No call gives such an
     /// answer.
     pub fn decode(answer: u32) -> Result<usize, Error> {
         let count = (answer & 65_535) as usize;
@@ -98,8 +88,6 @@ impl Error {
             9 => Error::Cut { done: count },
             10 => Error::TripForm,
             11 => Error::TripOrder,
-            12 => Error::Damaged,
-            13 => Error::Exhausted,
             17 => Error::TripConflict,
             18 => Error::TripsTooLong,
             number => panic!("no answer of the store has the number {number}"),
@@ -128,7 +116,8 @@ impl fmt::Display for Error {
             ),
             Error::Cut { done } => write!(
                 f,
-                "CUT (9): the budget of {done} was below the media writes or steps needed; the device is down"
+                "CUT (9): the budget paid for {done} media write{}, and more were needed; the device is down",
+                if *done == 1 { "" } else { "s" }
             ),
             Error::TripForm => write!(
                 f,
@@ -137,14 +126,6 @@ impl fmt::Display for Error {
             Error::TripOrder => write!(
                 f,
                 "TRIP ORDER (11): the minute of a trip is not above that of the line before"
-            ),
-            Error::Damaged => write!(
-                f,
-                "DAMAGED (12): the part is damaged, or its image is another than its records make"
-            ),
-            Error::Exhausted => write!(
-                f,
-                "EXHAUSTED (13): the part has too few running numbers left for the call"
             ),
             Error::TripConflict => write!(
                 f,
@@ -173,7 +154,7 @@ mod tests {
     use std::format;
     use std::string::ToString;
 
-    const ALL: [(Error, &str); 15] = [
+    const ALL: [(Error, &str); 14] = [
         (
             Error::Shape,
             "SHAPE (2): lent memory has another length than the call needs",
@@ -192,11 +173,15 @@ mod tests {
         ),
         (
             Error::Cut { done: 0 },
-            "CUT (9): the budget of 0 was below the media writes or steps needed; the device is down",
+            "CUT (9): the budget paid for 0 media writes, and more were needed; the device is down",
         ),
         (
-            Error::Cut { done: 2_555 },
-            "CUT (9): the budget of 2555 was below the media writes or steps needed; the device is down",
+            Error::Cut { done: 1 },
+            "CUT (9): the budget paid for 1 media write, and more were needed; the device is down",
+        ),
+        (
+            Error::Cut { done: 17 },
+            "CUT (9): the budget paid for 17 media writes, and more were needed; the device is down",
         ),
         (
             Error::TripForm,
@@ -205,14 +190,6 @@ mod tests {
         (
             Error::TripOrder,
             "TRIP ORDER (11): the minute of a trip is not above that of the line before",
-        ),
-        (
-            Error::Damaged,
-            "DAMAGED (12): the part is damaged, or its image is another than its records make",
-        ),
-        (
-            Error::Exhausted,
-            "EXHAUSTED (13): the part has too few running numbers left for the call",
         ),
         (
             Error::TripConflict,
@@ -258,7 +235,7 @@ mod tests {
 
     #[test]
     fn answers_that_no_call_gives() {
-        for number in [1, 14, 16, 19, 65_535] {
+        for number in [1, 12, 16, 19, 65_535] {
             let caught = std::panic::catch_unwind(|| Error::decode(65_536 * number));
             assert!(caught.is_err(), "{number}");
         }

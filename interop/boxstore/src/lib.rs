@@ -42,14 +42,6 @@
 //! [`Error::Cut`]: the device is then down, as if the power had gone at that
 //! moment. [`SYNC_WRITES`] and [`MOUNT_WRITES`] are never cut.
 //!
-//! # Append-only flash
-//!
-//! A `PartDevice` has the same files and calls on flash whose records are
-//! programmed once and erased by blocks. Its media are made from the part at each
-//! mount. A step is the program of a record or the erase of a block; budgets and
-//! counts are steps, [`PART_SYNC_STEPS`] and [`PART_MOUNT_STEPS`] are never cut.
-//! Needs the feature `part`.
-//!
 //! # Trip lists
 //!
 //! A trip list is text, at most [`LIST_BYTES`] of it, as a file of the store may
@@ -83,28 +75,17 @@
 #[cfg(any(feature = "std", test))]
 extern crate std;
 
-#[macro_use]
-pub mod raw;
-
 mod device;
 mod error;
-#[cfg(feature = "part")]
-pub mod part_calls;
-mod storage;
+pub mod raw;
 mod trips;
 
 pub use device::Device;
-#[cfg(feature = "part")]
-pub use device::PartDevice;
 pub use error::Error;
-#[cfg(feature = "part")]
-pub use storage::Flash;
-pub use storage::{Media, Storage};
 pub use trips::{join_trips, read_trip, trips, write_trips, Trip, Trips};
 
 #[doc(inline)]
 pub use layout::{
-    FILES, FILE_BYTES, FRAMES_BYTES, LIST_BYTES, MEDIA_BYTES, MOUNT_WRITES, PAGE_BYTES, PART_BYTES,
-    PART_MOUNT_STEPS, PART_SYNC_STEPS, SLOTS, STATE_BYTES, STATE_FLOOR, STATE_LOGICAL,
-    STATE_MOUNTED, STATE_SLOTS, SYNC_WRITES,
+    FILES, FILE_BYTES, FRAMES_BYTES, LIST_BYTES, MEDIA_BYTES, MOUNT_WRITES, PAGE_BYTES, SLOTS,
+    STATE_BYTES, STATE_FLOOR, STATE_LOGICAL, STATE_MOUNTED, STATE_SLOTS, SYNC_WRITES,
 };

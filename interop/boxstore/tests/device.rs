@@ -1,95 +1,19 @@
 //! Every method of a device, and every refusal that one can give.
 
 use boxstore::{
-    Device, Error, Media, Storage, FILES, FILE_BYTES, MEDIA_BYTES, MOUNT_WRITES, PAGE_BYTES, SLOTS,
-    STATE_MOUNTED, STATE_SLOTS, SYNC_WRITES,
+    Device, Error, FILES, FILE_BYTES, MEDIA_BYTES, MOUNT_WRITES, PAGE_BYTES, SLOTS, STATE_MOUNTED,
+    STATE_SLOTS, SYNC_WRITES,
 };
-#[cfg(feature = "part")]
-use boxstore::{Flash, PartDevice, PART_MOUNT_STEPS, PART_SYNC_STEPS};
 
-/// What a device is stored on.
-trait Stored: Storage + Clone {
-    /// Budgets that are never cut.
-    const SYNC: usize;
-    const MOUNT: usize;
-    /// What reads are refused with after a loss of power.
-    const UNMOUNTED: Error;
-
-    /// A device whose files are empty, down.
-    fn new() -> Device<Self>;
-}
-
-impl Stored for Media {
-    const SYNC: usize = SYNC_WRITES;
-    const MOUNT: usize = MOUNT_WRITES;
-    const UNMOUNTED: Error = Error::Down;
-
-    fn new() -> Device {
-        Device::new()
-    }
-}
-
-#[cfg(feature = "part")]
-impl Stored for Flash {
-    const SYNC: usize = PART_SYNC_STEPS;
-    const MOUNT: usize = PART_MOUNT_STEPS;
-    const UNMOUNTED: Error = Error::Damaged;
-
-    fn new() -> PartDevice {
-        PartDevice::blank()
-    }
-}
-
-/// Tests of a device, whatever it is stored on.
-macro_rules! on_each {
-    ($($test:ident)*) => {
-        mod on_media {
-            $(#[test]
-            fn $test() {
-                super::$test::<boxstore::Media>();
-            })*
-        }
-
-        #[cfg(feature = "part")]
-        mod on_flash {
-            $(#[test]
-            fn $test() {
-                super::$test::<boxstore::Flash>();
-            })*
-        }
-    };
-}
-
-on_each! {
-    a_synced_file_survives
-    what_was_not_synced_is_gone
-    format_empties_all_files
-    a_format_that_is_cut_empties_the_first_files
-    a_mount_trims_what_a_cut_sync_left
-    a_sync_that_is_cut_leaves_old_or_new_bytes
-    a_sync_with_nothing_to_store_needs_no_budget
-    the_greatest_sync_fits_its_budget
-    a_read_stops_at_the_logical_size
-    a_gap_before_a_write_is_zeros
-    truncate_cuts_and_fills
-    a_look_is_no_copy
-    what_a_look_leaves_out_is_zeros
-    a_full_cache_cuts_writes_short
-    a_device_that_is_down_refuses_all_but_mount_and_format
-    there_is_no_file_8
-    nothing_is_past_4096
-    state_and_frames_show_what_a_driver_stores
-}
-
-fn mounted<S: Stored>() -> Device<S> {
-    let mut device = S::new();
-    assert_eq!(device.format(S::MOUNT), Ok(0));
-    assert_eq!(device.mount(S::MOUNT), Ok(0));
+fn mounted() -> Device {
+    let mut device = Device::new();
+    assert_eq!(device.format(MOUNT_WRITES), Ok(0));
+    assert_eq!(device.mount(MOUNT_WRITES), Ok(0));
     device
 }
 
 /// A device that has each file's pages cached, as many as are told.
-fn cached<S: Stored>(pages: &[usize]) -> Device<S> {
+fn cached(pages: &[usize]) -> Device {
     let mut device = mounted();
     for (file, &count) in pages.iter().enumerate() {
         let bytes = vec![file as u8 + 1; count * PAGE_BYTES];
@@ -111,11 +35,12 @@ fn a_new_device_is_down_and_empty() {
     );
 }
 
-fn a_synced_file_survives<S: Stored>() {
-    let mut device = mounted::<S>();
+#[test]
+fn a_synced_file_survives() {
+    let mut device = mounted();
     assert_eq!(device.write(0, 0, b"SN-000042-A7"), Ok(12));
     assert_eq!(device.sizes()[0], 0);
-    assert_eq!(device.sync(0, S::SYNC), Ok(2));
+    assert_eq!(device.sync(0, SYNC_WRITES), Ok(2));
     assert_eq!(device.sizes()[0], 12);
     assert_eq!(&device.media()[..12], b"SN-000042-A7");
     device.cut_power();
@@ -125,23 +50,24 @@ fn a_synced_file_survives<S: Stored>() {
     assert_eq!(device.read_all(0).unwrap(), b"SN-000042-A7");
 }
 
-fn what_was_not_synced_is_gone<S: Stored>() {
-    let mut device = mounted::<S>();
+#[test]
+fn what_was_not_synced_is_gone() {
+    let mut device = mounted();
     device.write(2, 0, &[1; 100]).unwrap();
-    device.sync(2, S::SYNC).unwrap();
+    device.sync(2, SYNC_WRITES).unwrap();
     device.write(2, 50, &[2; 100]).unwrap();
     device.cut_power();
-    device.mount(S::MOUNT).unwrap();
+    device.mount(MOUNT_WRITES).unwrap();
     assert_eq!(device.read_all(2).unwrap(), [1; 100]);
 
     device.write(2, 50, &[2; 100]).unwrap();
-    assert_eq!(device.mount(S::MOUNT), Ok(0));
+    assert_eq!(device.mount(MOUNT_WRITES), Ok(0));
     assert_eq!(device.read_all(2).unwrap(), [1; 100]);
 }
 
 #[test]
 fn media_go_from_device_to_device() {
-    let mut device: Device = mounted();
+    let mut device = mounted();
     device.write(7, 4_000, &[9; 96]).unwrap();
     device.sync(7, SYNC_WRITES).unwrap();
     device.write(6, 0, &[8; 10]).unwrap();
@@ -159,7 +85,7 @@ fn media_go_from_device_to_device() {
 
 #[test]
 fn media_are_filled_in_place() {
-    let mut device: Device = cached(&[1]);
+    let mut device = cached(&[1]);
     let (media, sizes) = device.media_mut();
     media[FILE_BYTES..FILE_BYTES + 12].copy_from_slice(b"SN-000042-A7");
     sizes[1] = 9;
@@ -204,10 +130,11 @@ fn a_stored_size_that_no_file_has_is_refused() {
     assert_eq!(device.sizes(), &[0; FILES]);
 }
 
-fn format_empties_all_files<S: Stored>() {
-    let mut device = cached::<S>(&[1, 2, 0, 3]);
+#[test]
+fn format_empties_all_files() {
+    let mut device = cached(&[1, 2, 0, 3]);
     for file in 0..4 {
-        device.sync(file, S::SYNC).unwrap();
+        device.sync(file, SYNC_WRITES).unwrap();
     }
     assert_eq!(device.clone().format(2), Err(Error::Cut { done: 2 }));
     assert_eq!(device.format(3), Ok(3));
@@ -216,19 +143,21 @@ fn format_empties_all_files<S: Stored>() {
     assert_eq!(device.sizes(), &[0; FILES]);
 }
 
-fn a_format_that_is_cut_empties_the_first_files<S: Stored>() {
-    let mut device = cached::<S>(&[1, 1]);
-    device.sync(0, S::SYNC).unwrap();
-    device.sync(1, S::SYNC).unwrap();
+#[test]
+fn a_format_that_is_cut_empties_the_first_files() {
+    let mut device = cached(&[1, 1]);
+    device.sync(0, SYNC_WRITES).unwrap();
+    device.sync(1, SYNC_WRITES).unwrap();
     assert_eq!(device.format(1), Err(Error::Cut { done: 1 }));
     assert!(!device.is_mounted());
-    device.mount(S::MOUNT).unwrap();
+    device.mount(MOUNT_WRITES).unwrap();
     assert_eq!(device.len(0), Ok(0));
     assert_eq!(device.read_all(1).unwrap(), [2; PAGE_BYTES]);
 }
 
-fn a_mount_trims_what_a_cut_sync_left<S: Stored>() {
-    let mut device = mounted::<S>();
+#[test]
+fn a_mount_trims_what_a_cut_sync_left() {
+    let mut device = mounted();
     device.write(1, 0, &[65; 300]).unwrap();
     assert_eq!(device.sync(1, 2), Err(Error::Cut { done: 2 }));
     assert!(!device.is_mounted());
@@ -240,38 +169,45 @@ fn a_mount_trims_what_a_cut_sync_left<S: Stored>() {
     assert_eq!(device.len(1), Ok(0));
 }
 
-fn a_sync_that_is_cut_leaves_old_or_new_bytes<S: Stored>() {
-    let mut device = mounted::<S>();
+#[test]
+fn a_sync_that_is_cut_leaves_old_or_new_bytes() {
+    let mut device = mounted();
     device.write(1, 0, &[b'A'; 300]).unwrap();
-    device.sync(1, S::SYNC).unwrap();
+    device.sync(1, SYNC_WRITES).unwrap();
     device.write(1, 0, &[b'B'; 300]).unwrap();
     assert_eq!(device.sync(1, 1), Err(Error::Cut { done: 1 }));
     device.cut_power();
-    device.mount(S::MOUNT).unwrap();
+    device.mount(MOUNT_WRITES).unwrap();
     let found = device.read_all(1).unwrap();
     assert_eq!(found[..256], [b'B'; 256]);
     assert_eq!(found[256..], [b'A'; 44]);
 }
 
-fn a_sync_with_nothing_to_store_needs_no_budget<S: Stored>() {
-    let mut device = cached::<S>(&[1]);
-    assert_eq!(device.sync(0, S::SYNC), Ok(2));
+#[test]
+fn a_sync_with_nothing_to_store_needs_no_budget() {
+    let mut device = cached(&[1]);
+    assert_eq!(device.sync(0, SYNC_WRITES), Ok(2));
     assert_eq!(device.sync(0, 0), Ok(0));
 }
 
-fn the_greatest_sync_fits_its_budget<S: Stored>() {
-    let mut device = mounted::<S>();
+#[test]
+fn the_greatest_sync_fits_its_budget() {
+    let mut device = mounted();
     device.write(4, 0, &[1; FILE_BYTES]).unwrap();
-    device.sync(4, S::SYNC).unwrap();
+    device.sync(4, SYNC_WRITES).unwrap();
     device.truncate(4, 0).unwrap();
     device.write(4, 0, &[2; FILE_BYTES]).unwrap();
     let mut once_more = device.clone();
-    assert_eq!(once_more.sync(4, 17), Err(Error::Cut { done: 17 }));
-    assert_eq!(device.sync(4, S::SYNC), Ok(18));
+    assert_eq!(
+        once_more.sync(4, SYNC_WRITES - 1),
+        Err(Error::Cut { done: 17 })
+    );
+    assert_eq!(device.sync(4, SYNC_WRITES), Ok(SYNC_WRITES));
 }
 
-fn a_read_stops_at_the_logical_size<S: Stored>() {
-    let mut device = mounted::<S>();
+#[test]
+fn a_read_stops_at_the_logical_size() {
+    let mut device = mounted();
     device.write(3, 0, b"hello").unwrap();
     let mut buffer = [b'.'; 8];
     assert_eq!(device.read(3, 1, &mut buffer), Ok(4));
@@ -283,8 +219,9 @@ fn a_read_stops_at_the_logical_size<S: Stored>() {
     assert_eq!(&buffer, b"ello....");
 }
 
-fn a_gap_before_a_write_is_zeros<S: Stored>() {
-    let mut device = mounted::<S>();
+#[test]
+fn a_gap_before_a_write_is_zeros() {
+    let mut device = mounted();
     device.write(3, 600, b"end").unwrap();
     assert_eq!(device.len(3), Ok(603));
     let bytes = device.read_all(3).unwrap();
@@ -292,22 +229,24 @@ fn a_gap_before_a_write_is_zeros<S: Stored>() {
     assert_eq!(&bytes[600..], b"end");
 }
 
-fn truncate_cuts_and_fills<S: Stored>() {
-    let mut device = mounted::<S>();
+#[test]
+fn truncate_cuts_and_fills() {
+    let mut device = mounted();
     device.write(3, 0, &[7; 300]).unwrap();
-    device.sync(3, S::SYNC).unwrap();
+    device.sync(3, SYNC_WRITES).unwrap();
     assert_eq!(device.truncate(3, 100), Ok(()));
     assert_eq!(device.len(3), Ok(100));
     assert_eq!(device.truncate(3, 200), Ok(()));
     let bytes = device.read_all(3).unwrap();
     assert_eq!(bytes[..100], [7; 100]);
     assert_eq!(bytes[100..], [0; 100]);
-    assert_eq!(device.sync(3, S::SYNC), Ok(2));
+    assert_eq!(device.sync(3, SYNC_WRITES), Ok(2));
     assert_eq!(device.sizes()[3], 200);
 }
 
-fn a_look_is_no_copy<S: Stored>() {
-    let mut device = mounted::<S>();
+#[test]
+fn a_look_is_no_copy() {
+    let mut device = mounted();
     device.write(2, 0, &[5; 300]).unwrap();
     // cached: the part is not in the media
     let cached = device.look(2, 10).unwrap();
@@ -315,7 +254,7 @@ fn a_look_is_no_copy<S: Stored>() {
     assert!(!device.media().as_ptr_range().contains(&cached.as_ptr()));
     assert_eq!(device.look(2, 256).unwrap(), [5; 44]);
 
-    device.sync(2, S::SYNC).unwrap();
+    device.sync(2, SYNC_WRITES).unwrap();
     let stored = device.look(2, 10).unwrap();
     assert_eq!(stored, [5; 246]);
     assert!(std::ptr::eq(
@@ -325,10 +264,11 @@ fn a_look_is_no_copy<S: Stored>() {
     assert_eq!(device.look_count(2, 10), Ok(246));
 }
 
-fn what_a_look_leaves_out_is_zeros<S: Stored>() {
-    let mut device = mounted::<S>();
+#[test]
+fn what_a_look_leaves_out_is_zeros() {
+    let mut device = mounted();
     device.write(2, 0, &[5; 100]).unwrap();
-    device.sync(2, S::SYNC).unwrap();
+    device.sync(2, SYNC_WRITES).unwrap();
     device.truncate(2, 700).unwrap();
     assert_eq!(device.look(2, 40).unwrap(), [5; 60]);
     assert_eq!(device.look_count(2, 40), Ok(216));
@@ -344,40 +284,43 @@ fn what_a_look_leaves_out_is_zeros<S: Stored>() {
     assert_eq!(device.look_count(7, FILE_BYTES), Ok(0));
 }
 
-fn a_full_cache_cuts_writes_short<S: Stored>() {
-    let mut device = cached::<S>(&[16, 8]);
+#[test]
+fn a_full_cache_cuts_writes_short() {
+    let mut device = cached(&[16, 8]);
     assert_eq!(device.cached_pages(), SLOTS);
     assert_eq!(device.write(2, 0, &[1]), Err(Error::NoRoom));
     assert_eq!(device.write(1, 2_000, &[1; 100]), Ok(48));
     assert_eq!(device.write(2, 0, &[]), Ok(0));
     assert_eq!(device.len(2), Ok(0));
-    device.sync(1, S::SYNC).unwrap();
+    device.sync(1, SYNC_WRITES).unwrap();
     assert_eq!(device.cached_pages(), 16);
     assert_eq!(device.write(2, 0, &[1]), Ok(1));
 }
 
-fn a_device_that_is_down_refuses_all_but_mount_and_format<S: Stored>() {
-    let mut device = mounted::<S>();
+#[test]
+fn a_device_that_is_down_refuses_all_but_mount_and_format() {
+    let mut device = mounted();
     device.write(0, 0, &[1; 10]).unwrap();
     device.cut_power();
     let mut buffer = [3; 4];
-    assert_eq!(device.read(0, 0, &mut buffer), Err(S::UNMOUNTED));
+    assert_eq!(device.read(0, 0, &mut buffer), Err(Error::Down));
     assert_eq!(buffer, [3; 4]);
-    assert_eq!(device.read_all(0), Err(S::UNMOUNTED));
-    assert_eq!(device.write(0, 0, &[1]), Err(S::UNMOUNTED));
-    assert_eq!(device.truncate(0, 0), Err(S::UNMOUNTED));
-    assert_eq!(device.sync(0, S::SYNC), Err(S::UNMOUNTED));
-    assert_eq!(device.look(0, 0), Err(S::UNMOUNTED));
-    assert_eq!(device.look_count(0, 0), Err(S::UNMOUNTED));
-    assert_eq!(device.len(0), Err(S::UNMOUNTED));
+    assert_eq!(device.read_all(0), Err(Error::Down));
+    assert_eq!(device.write(0, 0, &[1]), Err(Error::Down));
+    assert_eq!(device.truncate(0, 0), Err(Error::Down));
+    assert_eq!(device.sync(0, SYNC_WRITES), Err(Error::Down));
+    assert_eq!(device.look(0, 0), Err(Error::Down));
+    assert_eq!(device.look_count(0, 0), Err(Error::Down));
+    assert_eq!(device.len(0), Err(Error::Down));
     // the first refusal that applies
-    assert_eq!(device.len(8), Err(S::UNMOUNTED));
-    assert_eq!(device.write(8, 5_000, &[1]), Err(S::UNMOUNTED));
-    assert_eq!(device.mount(S::MOUNT), Ok(0));
+    assert_eq!(device.len(8), Err(Error::Down));
+    assert_eq!(device.write(8, 5_000, &[1]), Err(Error::Down));
+    assert_eq!(device.mount(MOUNT_WRITES), Ok(0));
 }
 
-fn there_is_no_file_8<S: Stored>() {
-    let mut device = mounted::<S>();
+#[test]
+fn there_is_no_file_8() {
+    let mut device = mounted();
     for file in [8, 1 << 32, usize::MAX] {
         assert_eq!(device.read(file, 5_000, &mut [0]), Err(Error::NoFile));
         assert_eq!(device.read_all(file), Err(Error::NoFile));
@@ -390,8 +333,9 @@ fn there_is_no_file_8<S: Stored>() {
     }
 }
 
-fn nothing_is_past_4096<S: Stored>() {
-    let mut device = mounted::<S>();
+#[test]
+fn nothing_is_past_4096() {
+    let mut device = mounted();
     assert_eq!(device.write(0, 4_095, &[1]), Ok(1));
     assert_eq!(device.write(0, 4_095, &[1, 2]), Err(Error::Range));
     assert_eq!(device.write(0, 4_096, &[]), Ok(0));
@@ -408,7 +352,7 @@ fn nothing_is_past_4096<S: Stored>() {
 
 #[test]
 fn debug_is_short() {
-    let device: Device = cached(&[1, 2]);
+    let device = cached(&[1, 2]);
     assert_eq!(
         format!("{device:?}"),
         "Device { mounted: true, logical: [256, 512, 0, 0, 0, 0, 0, 0], \
@@ -435,8 +379,9 @@ fn len_and_read_all_are_refused_as_a_read_is() {
     assert_eq!(device.read_all(8), Err(Error::NoFile));
 }
 
-fn state_and_frames_show_what_a_driver_stores<S: Stored>() {
-    let mut device = mounted::<S>();
+#[test]
+fn state_and_frames_show_what_a_driver_stores() {
+    let mut device = mounted();
     device.write(3, 300, b"driver").unwrap();
     // slot 0 is used, by page 1 of file 3
     assert_eq!(device.state()[STATE_MOUNTED], 1);

@@ -20,6 +20,3 @@ random_calls::store_of!(
 );
 
 random_lists::trip_lists_by!(Archive, boxstore::raw);
-
-#[cfg(feature = "part")]
-random_parts::part_store_of!(Archive, boxstore::part_calls);
