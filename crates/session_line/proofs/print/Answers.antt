@@ -1,83 +1,62 @@
 -- `session_line::print` meets its contract: the parts of the line are laid one after another over the front of the output.
 use mathlib.Core.Path.{◌≡◌, sym, ap, ◌∙◌}
-use Prim.Native.Nat.{◌+◌, ◌*◌, ◌≤◌}
+use mathlib.Core.List.{List}
+use Prim.Native.Nat.{ℕ, ◌+◌, ◌*◌, ◌<◌}
 use native.Mathlib.Omega.{arith}
 use lib.ListN.{length, length-set}
-use Rattle.answer.specs.Coded.{coded, done}
+use Rattle.answer.specs.Coded.{Coded, coded, done, SHAPE}
 use Rattle.text.specs.Decimal.{decimal}
 use Rattle.text.proofs.Decimal.{decimal-fits}
-use Rattle.session_line.specs.Reply.{reply_line}
+use Rattle.session_line.specs.Reply.{reply_line, print_answer, printed}
 use Rattle.session_line.proofs.Reply.{reply-length, reply_put, print_fits, print_short}
 use Rattle.session_line.proofs.print.Goals as goal
 
+-- how long the line is
+line-length : (a : Coded) (bytes : List ℕ) (number count : ℕ) → number ≡ a.number → count ≡ a.count
+    → length (reply_line a bytes) ≡ length (decimal number) + length (decimal count) + 2 * length bytes + 3
+line-length a bytes number count n k = rw (n, k) (reply-length a bytes)
+
+-- a line that does not fit is not printed
+not-printed : (text output : List ℕ) → length output < length text → (SHAPE ≡ print_answer text output) × (output ≡ printed text output)
+not-printed text output h =
+    let p = print_short text output h in (sym p.0, sym p.1)
+
 pub overflow_add-decimal_length : goal.overflow_add-decimal_length
-overflow_add-decimal_length c =
-    let digits-fit : length (decimal c.number-number.result) + length (decimal c.count-count.result) ≤ 40 = omega (arith, decimal-fits c.number-number.result (omega arith), decimal-fits c.count-count.result (omega arith)) in
-    omega (arith, digits-fit)
+overflow_add-decimal_length c = omega (arith, decimal-fits c.number-number.result (omega arith), decimal-fits c.count-count.result (omega arith))
 
 pub overflow_add-decimal_length-2 : goal.overflow_add-decimal_length-2
-overflow_add-decimal_length-2 c =
-    let digits-fit : length (decimal c.number-number.result) + length (decimal c.count-count.result) ≤ 40 = omega (arith, decimal-fits c.number-number.result (omega arith), decimal-fits c.count-count.result (omega arith)) in
-    omega (arith, digits-fit)
+overflow_add-decimal_length-2 c = omega (arith, decimal-fits c.number-number.result (omega arith), decimal-fits c.count-count.result (omega arith))
 
 pub returns-then-room-lt1 : goal.returns-then-room-lt1
-returns-then-room-lt1 c =
-    let line_length_lem : length (reply_line (coded c.args.answer) c.args.bytes.now)
-    ≡ length (decimal c.number-number.result) + length (decimal c.count-count.result) + 2 * length c.args.bytes.now + 3 = rw (c.number-number.ensures, c.count-count.ensures) (reply-length _ _) in
-    let a = c.args in
-    let p = print_short (reply_line (coded a.answer) a.bytes.now) a.output.now (omega (arith, line_length_lem)) in
-    (sym p.0, sym p.1)
+returns-then-room-lt1 c = not-printed _ _ (omega (arith, line-length (coded c.args.answer) c.args.bytes.now _ _ c.number-number.ensures c.count-count.ensures))
 
 pub returns-then-room-bytes : goal.returns-then-room-bytes
-returns-then-room-bytes c =
-    let line_length_lem : length (reply_line (coded c.args.answer) c.args.bytes.now)
-    ≡ length (decimal c.number-number.result) + length (decimal c.count-count.result) + 2 * length c.args.bytes.now + 3 = rw (c.number-number.ensures, c.count-count.ensures) (reply-length _ _) in
-    let a = c.args in
-    let p = print_short (reply_line (coded a.answer) a.bytes.now) a.output.now (omega (arith, line_length_lem)) in
-    (sym p.0, sym p.1)
+returns-then-room-bytes c = not-printed _ _ (omega (arith, line-length (coded c.args.answer) c.args.bytes.now _ _ c.number-number.ensures c.count-count.ensures))
 
 pub put_decimal-second-requires : goal.put_decimal-second-requires
-put_decimal-second-requires c =
-    let first-length : length c.put_decimal-first.new.output ≡ length c.args.output.now = c.put_decimal-first.auto.output in
-    simp length-set (omega (arith, first-length))
+put_decimal-second-requires c = simp length-set (omega (arith, c.put_decimal-first.auto.output))
 
 pub bounds-output-second : goal.bounds-output-second
-bounds-output-second c =
-    let first-length : length c.put_decimal-first.new.output ≡ length c.args.output.now = c.put_decimal-first.auto.output in
-    let second-length : length c.put_decimal-second.new.output ≡ length c.args.output.now = c.put_decimal-second.auto.output ∙ simp length-set first-length in
-    omega (arith, second-length)
+bounds-output-second c = omega (arith, c.put_decimal-second.auto.output ∙ length-set _ _ _ ∙ c.put_decimal-first.auto.output)
 
 pub put_hex-requires : goal.put_hex-requires
-put_hex-requires c =
-    let first-length : length c.put_decimal-first.new.output ≡ length c.args.output.now = c.put_decimal-first.auto.output in
-    let second-length : length c.put_decimal-second.new.output ≡ length c.args.output.now = c.put_decimal-second.auto.output ∙ simp length-set first-length in
-    simp length-set (omega (arith, second-length))
+put_hex-requires c = simp length-set (omega (arith, c.put_decimal-second.auto.output ∙ length-set _ _ _ ∙ c.put_decimal-first.auto.output))
 
 pub bounds-output-end : goal.bounds-output-end
-bounds-output-end c =
-    let first-length : length c.put_decimal-first.new.output ≡ length c.args.output.now = c.put_decimal-first.auto.output in
-    let second-length : length c.put_decimal-second.new.output ≡ length c.args.output.now = c.put_decimal-second.auto.output ∙ simp length-set first-length in
-    let third_length : length c.put_hex.new.output ≡ length c.args.output.now = c.put_hex.auto.output ∙ simp length-set second-length in
-    omega (arith, third_length)
+bounds-output-end c = omega (arith, c.put_hex.auto.output ∙ length-set _ _ _ ∙ c.put_decimal-second.auto.output ∙ length-set _ _ _ ∙ c.put_decimal-first.auto.output)
 
 pub shape_of-output : goal.shape_of-output
-shape_of-output c =
-    let first-length : length c.put_decimal-first.new.output ≡ length c.args.output.now = c.put_decimal-first.auto.output in
-    let second-length : length c.put_decimal-second.new.output ≡ length c.args.output.now = c.put_decimal-second.auto.output ∙ simp length-set first-length in
-    let third_length : length c.put_hex.new.output ≡ length c.args.output.now = c.put_hex.auto.output ∙ simp length-set second-length in
-    simp length-set third_length
+shape_of-output c = simp length-set (c.put_hex.auto.output ∙ length-set _ _ _ ∙ c.put_decimal-second.auto.output ∙ length-set _ _ _ ∙ c.put_decimal-first.auto.output)
 
 pub returns : goal.returns
 returns c =
-    let line_length_lem : length (reply_line (coded c.args.answer) c.args.bytes.now)
-    ≡ length (decimal c.number-number.result) + length (decimal c.count-count.result) + 2 * length c.args.bytes.now + 3 = rw (c.number-number.ensures, c.count-count.ensures) (reply-length _ _) in
     let a = c.args in
     let number = c.number-number in
     let count = c.count-count in
     let first = c.put_decimal-first in
     let second = c.put_decimal-second in
     let line = reply_line (coded a.answer) a.bytes.now in
-    let l = line_length_lem in
+    let l = line-length (coded a.answer) a.bytes.now _ _ number.ensures count.ensures in
     let p = print_fits line a.output.now (omega arith) in
     let q : second.result + 1 + 2 * length a.bytes.now + 1 ≡ length line = omega arith in (
       ap done q ∙ sym p.0,

@@ -1,7 +1,5 @@
 -- `session_line::request_of` meets its contract: by its letter.
-use Prim.Native.Nat.{◌≤◌}
 use native.Mathlib.Omega.{arith}
-use lib.ListN.{get_or}
 use borrow.Author.Tests.{ne_eqb}
 use Rattle.session_line.specs.Grammar.{forms, F, M, W, T, S, R}
 use Rattle.session_line.specs.Parser.{limits_of}
@@ -19,8 +17,7 @@ returns-then-letter-eq77 c = (rw c.if-letter-eq77.true (with_four M c.args.value
 pub overflow_cast-result : goal.overflow_cast-result
 unfolding limits_of forms
 overflow_cast-result c =
-    let h : get_or c.args.values 3 0 ≤ 255 = fitting _ W c.args.values c.if-letter-eq87.true c.requires 3 (omega arith) in
-    omega (arith, h)
+    omega (arith, fitting _ W c.args.values c.if-letter-eq87.true c.requires 3 (omega arith))
 
 pub returns-then-letter-eq87 : goal.returns-then-letter-eq87
 unfolding limits_of forms
@@ -41,8 +38,7 @@ pub returns-then-letter-eq82 : goal.returns-then-letter-eq82
 unfolding limits_of forms
 returns-then-letter-eq82 c = (
   rw c.if-letter-eq82.true (with_four R c.args.values (omega arith)),
-  fitting _ R c.args.values c.if-letter-eq82.true c.requires
-      2 (omega arith),
+  fitting _ R c.args.values c.if-letter-eq82.true c.requires 2 (omega arith),
 )
 
 pub returns : goal.returns

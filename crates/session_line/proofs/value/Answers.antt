@@ -6,8 +6,7 @@ pub loop-i-init : goal.loop-i-init
 loop-i-init c = valued-none _
 
 pub overflow_mul-n : goal.overflow_mul-n
-overflow_mul-n c =
-    let b = valued-small _ _ _ 4 c.loop-i.invariant (omega arith) in omega (arith, b)
+overflow_mul-n c = omega (arith, valued-small _ _ _ 4 c.loop-i.invariant (omega arith))
 
 pub overflow_sub-text : goal.overflow_sub-text
 overflow_sub-text c = omega (arith, digit_at c.args.text.now c.loop-i.i c.requires.1 (omega arith))

@@ -1,5 +1,4 @@
-use Rattle.std.proofs.Common.{◌≡◌, ◌-◌, true, get_or, arith}
-use Rattle.text.specs.Decimal.{is_digit}
+use Rattle.std.proofs.Common.{get_or, arith}
 use Rattle.trip_list.proofs.Runs.{digits-first, digits-next, digits-small, digits_end, digits_many, digits-read, nothing_read, digit_found, no_digit-found}
 use Rattle.trip_list.proofs.number_in_front.Goals as goal
 
@@ -14,10 +13,7 @@ returns-then-digit-gt9 c =
     digits-read _ _ _ c.loop-i.invariant (omega arith) (no_digit-found x s.result (omega arith) s.ensures.value (omega arith) (omega arith)) _ c.number_ends.ensures
 
 pub returns-then-i-eq10 : goal.returns-then-i-eq10
-returns-then-i-eq10 c =
-    let digit : (is_digit (get_or c.args.text.now c.loop-i.i 0) ≡ true)
-    × (c.wrapping_sub_u8-digit.result ≡ get_or c.args.text.now c.loop-i.i 0 - 48) = digit_found _ _ c.wrapping_sub_u8-digit.ensures.value (omega arith) in
-    nothing_read (digits_many _ _ _ c.loop-i.invariant (omega arith) digit.0 (omega arith))
+returns-then-i-eq10 c = nothing_read (digits_many _ _ _ c.loop-i.invariant (omega arith) (digit_found _ _ c.wrapping_sub_u8-digit.ensures.value (omega arith)).0 (omega arith))
 
 pub overflow_mul-value : goal.overflow_mul-value
 overflow_mul-value c =
@@ -29,10 +25,8 @@ overflow_add-value c =
 
 pub loop-i-preserved : goal.loop-i-preserved
 loop-i-preserved c =
-    let digit : (is_digit (get_or c.args.text.now c.loop-i.i 0) ≡ true)
-    × (c.wrapping_sub_u8-digit.result ≡ get_or c.args.text.now c.loop-i.i 0 - 48) = digit_found _ _ c.wrapping_sub_u8-digit.ensures.value (omega arith) in
     let l = c.loop-i in
-    let d = digit in
+    let d = digit_found _ _ c.wrapping_sub_u8-digit.ensures.value (omega arith) in
     rw (c.widen.ensures, d.1) (digits-next _ _ _ l.invariant (omega arith) d.0 (omega (arith, l.invariant.few)))
 
 pub returns : goal.returns
