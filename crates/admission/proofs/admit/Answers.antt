@@ -1,5 +1,6 @@
 -- `admission::admit` meets its contract: a refusal of `admit_device` stands; or else `admit_state` decides.
 use mathlib.Core.Path.{refl, ◌∙◌}
+use mathlib.Core.Bool.{Bool}
 use mathlib.Core.List.{List, ◌++◌}
 use Prim.Native.Nat.{ℕ}
 use Rattle.answer.specs.Admission.{Test}
@@ -19,6 +20,10 @@ use Rattle.admission.proofs.admit.Goals as goal
 abbrev first : List ℕ → List ℕ → List ℕ → List ℕ → List Test
 first state sizes media frames = state_shape state ++ device_tests pages_per_file (media_of media sizes) frames
 
+-- the tests of `admit_state`
+abbrev rest : List ℕ → List ℕ → ℕ → Bool → List Test
+rest state sizes file range = state_tests pages_per_file sizes (decode state) file range
+
 pub admit_state-requires : goal.admit_state-requires
 unfolding media_shape frames_shape sizes_fit
 admit_state-requires c =
@@ -28,15 +33,13 @@ admit_state-requires c =
 
 pub returns-in-Refused : goal.returns-in-Refused
 unfolding state_shape
-returns-in-Refused c =
-    let rest : List Test = let a = c.args in state_tests pages_per_file a.sizes.now (decode a.state.now) a.file a.range in (
-      λ media frames e q. then_refused (first c.args.state.now c.args.sizes.now media frames) rest _ (c.admit_device-admitted.ensures media frames e q) _ c.in-Refused.is,
-      c.none_cached.ensures ∙ table_refused c.in-Refused.refusal (decode c.args.state.now).slots,
-    )
+returns-in-Refused c = (
+  λ media frames e q. then_refused (first c.args.state.now c.args.sizes.now media frames) (rest c.args.state.now c.args.sizes.now c.args.file c.args.range) _ (c.admit_device-admitted.ensures media frames e q) _ c.in-Refused.is,
+  c.none_cached.ensures ∙ table_refused _ _,
+)
 
 pub returns-in-Done : goal.returns-in-Done
 unfolding state_shape media_shape frames_shape sizes_fit
 returns-in-Done c =
-    let rest : List Test = let a = c.args in state_tests pages_per_file a.sizes.now (decode a.state.now) a.file a.range in
-    let e = c.admit_state.ensures in
-    (λ media frames p q. e.0 ∙ then_rest (first c.args.state.now c.args.sizes.now media frames) rest _ (c.admit_device-admitted.ensures media frames p q) refl _ c.in-Done.is, e.1)
+    let (coded_is, table_is) = c.admit_state.ensures in
+    (λ media frames e q. coded_is ∙ then_rest (first c.args.state.now c.args.sizes.now media frames) (rest c.args.state.now c.args.sizes.now c.args.file c.args.range) _ (c.admit_device-admitted.ensures media frames e q) refl _ c.in-Done.is, table_is)

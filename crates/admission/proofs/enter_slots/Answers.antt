@@ -1,5 +1,4 @@
 use mathlib.Core.Path.{◌≡◌, sym, ◌∙◌}
-use mathlib.Core.Bool.{false≢true}
 use native.Mathlib.Omega.{arith}
 use borrow.Author.Rules.{rules}
 use Rattle.device.specs.Device.{slot_count}
@@ -15,29 +14,8 @@ returns-then-all_free c =
 pub loop-k-init : goal.loop-k-init
 loop-k-init c = (rw c.requires.1 (passed_none c.args.state.now), search rules, search rules, search rules)
 
-pub overflow_add-k : goal.overflow_add-k
-overflow_add-k c = omega arith
-
-pub loop-k-smaller-then-eight_free : goal.loop-k-smaller-then-eight_free
-loop-k-smaller-then-eight_free c = omega arith
-
 pub loop-k-preserved-then-eight_free : goal.loop-k-preserved-then-eight_free
 loop-k-preserved-then-eight_free c = (passed-zero c.args.state.now _ c.loop-k.k 8 c.loop-k.invariant.0 (sym c.eight_free.ensures ∙ c.if-eight_free.true), omega arith, omega arith, search rules)
-
-pub enter_eight-requires : goal.enter_eight-requires
-enter_eight-requires c = (search rules, omega arith, c.loop-k.invariant.0)
-
-pub overflow_add-k-then-enter_eight : goal.overflow_add-k-then-enter_eight
-overflow_add-k-then-enter_eight c = omega arith
-
-pub loop-k-smaller : goal.loop-k-smaller
-loop-k-smaller c = omega arith
-
-pub loop-k-preserved : goal.loop-k-preserved
-loop-k-preserved c = (c.enter_eight.ensures.0 c.if-enter_eight.true, omega arith, omega arith, search rules)
-
-pub returns-else-enter_eight : goal.returns-else-enter_eight
-returns-else-enter_eight c = (sym (c.enter_eight.ensures.1 c.if-enter_eight.false), λ q. absurd (false≢true q))
 
 pub returns : goal.returns
 returns c =

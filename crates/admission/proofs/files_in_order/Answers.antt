@@ -1,10 +1,9 @@
 use mathlib.Core.Path.{◌≡◌, sym, ◌∙◌}
 use Prim.Native.Nat.{ℕ}
-use native.Mathlib.Omega.{arith}
 use borrow.Author.Rules.{rules}
-use Rattle.media.specs.Geometry.{files, file_bytes, pages_per_file}
+use Rattle.media.specs.Geometry.{file_bytes, pages_per_file}
 use Rattle.device.specs.Sizes.{in_order}
-use Rattle.scan.proofs.Loops.{flagged-below-none, flagged-below-next, flagged-below_end}
+use Rattle.scan.proofs.Loops.{flagged-below-next}
 use Rattle.scan.proofs.Zeros.{zero_or}
 use Rattle.admission.proofs.files_in_order.Goals as goal
 
@@ -13,15 +12,9 @@ sizes_here : (greatest : ℕ) {l k s l' k' s' : ℕ} → l ≡ l' → k ≡ k' �
     → in_order greatest (record { logical = l'; floor = k'; stored = s' }) ≡ in_order greatest (record { logical = l; floor = k; stored = s })
 sizes_here greatest p q r = rw (p, q, r)
 
-pub loop-f-init : goal.loop-f-init
-loop-f-init c = (flagged-below-none, search rules)
-
 pub loop-f-preserved : goal.loop-f-preserved
 loop-f-preserved c =
     let t =
     sizes_here (file_bytes pages_per_file) c.logical_at.ensures c.floor_at.ensures c.stored_size.ensures
     ∙ sym c.disorder-wrong.ensures in
     (rw (zero_or c.loop-f.wrong c.disorder-wrong.result, ← t) (flagged-below-next c.loop-f.invariant.0), search rules)
-
-pub returns : goal.returns
-returns c = flagged-below_end c.loop-f.invariant.0 files (omega arith)

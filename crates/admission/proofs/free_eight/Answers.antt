@@ -1,16 +1,11 @@
-use mathlib.Core.Path.{◌≡◌, sym, ap, ◌∙◌}
-use Prim.Native.Nat.{◌+◌}
-use native.Mathlib.Omega.{arith}
+use mathlib.Core.Path.{sym, ap, ◌∙◌}
 use lib.ListN.{length}
 use borrow.Author.Rules.{rules}
 use Rattle.state_bytes.specs.Encoding.{slot_set}
-use Rattle.admission.specs.Freeing.{is_from, freed_slots}
+use Rattle.admission.specs.Freeing.{is_from}
 use Rattle.admission.proofs.Freeing.{freed_here, freed_none, length-slot_set}
 use Rattle.admission.proofs.free_eight.Goals as goal
 use Rattle.admission.proofs.free_eight.Goals.{then-is_from, else-is_from}
-
-pub loop-i-init : goal.loop-i-init
-loop-i-init c = (λ bytes h. h, search rules, search rules, search rules, search rules)
 
 pub loop-i-preserved : goal.loop-i-preserved
 loop-i-preserved c =
@@ -32,12 +27,3 @@ loop-i-preserved c =
         | else-is_from w ↦ ap length w.state-is ∙ c.loop-i.invariant.4
       ],
     )
-
-pub shape_of-state : goal.shape_of-state
-shape_of-state c = c.loop-i.invariant.4
-
-pub returns : goal.returns
-returns c =
-    let a = c.args in
-    let e : c.loop-i.i ≡ a.k + 8 = omega arith in
-    λ bytes h. c.loop-i.invariant.0 bytes h ∙ ap (λ i. freed_slots a.file a.n i bytes) e

@@ -1,16 +1,9 @@
 -- `cache::format` meets its contract: the bytes of the state, the call on them, and the state that they say.
-use Rattle.media.specs.Geometry.{pages_per_file}
-use Rattle.media.specs.Write.{media_of}
-use Rattle.scan.proofs.Loops.{length_mapped}
-use Rattle.device.specs.Mounting.{format}
-use Rattle.state_bytes.specs.Inverse.{Shaped}
 use Rattle.state_bytes.proofs.OnBytes.{back_on, format-shaped}
-use borrow.Author.Rules.{rules}
 use Rattle.cache.proofs.format.Goals as goal
 
 pub returns : goal.returns
 returns c =
-    let shaped : Shaped c.args.cache = record { slots = search (rules, length_mapped); logical = search rules; floor = search rules } in
     λ frames. rw c.decode.ensures
-    (back_on (media_of c.args.media.now c.args.sizes.now) frames c.args.cache shaped (format pages_per_file c.args.budget) (λ d. format-shaped pages_per_file d _) _ _ _ _
+    (back_on _ frames _ (search) _ (λ d. format-shaped _ d _) _ _ _ _
     (rw c.bytes_of-state.ensures at (c.format-answer.ensures frames)))

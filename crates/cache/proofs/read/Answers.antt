@@ -1,17 +1,7 @@
 -- `cache::read` meets its contract: the bytes of the state say the state, which comes back.
 use mathlib.Core.Path.{refl, ◌∙◌}
-use Rattle.media.specs.Geometry.{pages_per_file}
-use Rattle.media.specs.Write.{media_of}
-use Rattle.scan.proofs.Loops.{length_mapped}
-use Rattle.state_bytes.specs.Inverse.{Shaped}
 use Rattle.state_bytes.proofs.OnBytes.{same_read}
-use borrow.Author.Rules.{rules}
 use Rattle.cache.proofs.read.Goals as goal
 
 pub returns : goal.returns
-returns c =
-    let shaped : Shaped c.args.cache = record { slots = search (rules, length_mapped); logical = search rules; floor = search rules } in (
-      (rw c.bytes_of-state.ensures at c.read-answer.ensures)
-          ∙ same_read (media_of c.args.media.now c.args.sizes.now) c.args.frames.now c.args.cache shaped pages_per_file c.args.file c.args.position c.args.buffer.now,
-      refl,
-    )
+returns c = ((rw c.bytes_of-state.ensures at c.read-answer.ensures) ∙ same_read _ _ _ (search) _ _ _ _, refl)

@@ -19,9 +19,6 @@ use Rattle.reading.proofs.read_pages.Goals as goal
 pub loop-i-init : goal.loop-i-init
 loop-i-init c = (λ stored d e-table e-floor. sym (overwrite-none _ 0), search rules, search rules)
 
-pub read_frame-requires : goal.read_frame-requires
-read_frame-requires c = (search rules, omega arith, omega arith)
-
 pub loop-i-preserved-then-k-lt-SLOTS : goal.loop-i-preserved-then-k-lt-SLOTS
 loop-i-preserved-then-k-lt-SLOTS c =
     let a = c.args in
@@ -35,12 +32,6 @@ loop-i-preserved-then-k-lt-SLOTS c =
       omega arith,
       length_put i (i + c.min.result) c.loop-i.buffer left (omega (arith, c.read_frame.auto)) (omega arith) fits ∙ c.loop-i.invariant.2,
     )
-
-pub cached_from-stop-requires : goal.cached_from-stop-requires
-cached_from-stop-requires c = omega arith
-
-pub read_stored-requires : goal.read_stored-requires
-read_stored-requires c = (search rules, search rules, omega arith)
 
 pub loop-i-preserved : goal.loop-i-preserved
 loop-i-preserved c =
@@ -64,9 +55,3 @@ loop-i-preserved c =
       omega arith,
       length_put i to c.loop-i.buffer left (omega (arith, c.read_stored.auto)) (omega arith) fits ∙ c.loop-i.invariant.2,
     )
-
-pub returns : goal.returns
-returns c =
-    let a = c.args in
-    let e : c.loop-i.i ≡ a.count = omega arith in
-    λ stored d e-table e-floor. c.loop-i.invariant.0 stored d e-table e-floor ∙ rw e
