@@ -12,13 +12,7 @@ pub overflow_cast-stored : goal.overflow_cast-stored
 overflow_cast-stored c = omega (arith, c.type_inv.sizes c.args.file)
 
 pub write_pages-writes-requires : goal.write_pages-writes-requires
-write_pages-writes-requires c =
-    let a = c.args in (
-      omega arith,
-      omega arith,
-      omega arith,
-      omega (arith, one_more _ _ c.trim_if-trims.ensures),
-    )
+write_pages-writes-requires c = (omega arith, omega arith, omega arith, omega (arith, one_more _ _ c.trim_if-trims.ensures))
 
 pub size_if-requires : goal.size_if-requires
 size_if-requires c = (omega arith, omega arith, omega arith, omega (arith, c.logical_at-logical.ensures), omega (arith, c.write_pages-writes.ensures.0, one_more _ _ c.trim_if-trims.ensures))
