@@ -1,5 +1,4 @@
 use mathlib.Core.Path.{refl}
-use Prim.Native.Nat.{ℕ}
 use native.Mathlib.Omega.{arith}
 use borrow.Author.Rules.{rules}
 use Rattle.media.specs.Write.{media_of}
@@ -14,12 +13,6 @@ overflow_cast-n c = omega (arith, (c.requires.2 c.loop-f.f (omega arith)).1)
 
 pub needs_trim-wanted-requires : goal.needs_trim-wanted-requires
 needs_trim-wanted-requires c = (omega (arith, c.loop-f.invariant.2), omega (arith, c.loop-f.invariant.3), omega arith, (c.requires.2 c.loop-f.f (omega arith)).1)
-
-pub trim_if-needed-requires : goal.trim_if-needed-requires
-trim_if-needed-requires c =
-    let f : ℕ = c.loop-f.f in
-    let fit = c.requires.2 f (omega arith) in
-    (omega (arith, c.loop-f.invariant.2), omega (arith, c.loop-f.invariant.3), omega arith, omega (arith, c.loop-f.invariant.0.rest.size_of f (omega arith) (omega arith), fit.0), fit.1, omega (arith, c.loop-f.invariant.0.most))
 
 pub loop-f-preserved : goal.loop-f-preserved
 loop-f-preserved c =

@@ -13,22 +13,6 @@ use Rattle.media.proofs.Direct.{page_in-place}
 use Rattle.device.specs.Device.{frame_start}
 use Rattle.writeback.proofs.write_frame.Goals as goal
 
-pub overflow_mul-from-2 : goal.overflow_mul-from-2
-unfolding file_start
-overflow_mul-from-2 c = omega (arith, file_end c.args.pages c.args.file (omega arith))
-
-pub overflow_add-from : goal.overflow_add-from
-unfolding file_start
-overflow_add-from c = omega (arith, file_end c.args.pages c.args.file (omega arith))
-
-pub overflow_add-end : goal.overflow_add-end
-unfolding file_start
-overflow_add-end c = omega (arith, file_end c.args.pages c.args.file (omega arith))
-
-pub slice_bounds-write_page-end : goal.slice_bounds-write_page-end
-unfolding file_start
-slice_bounds-write_page-end c = omega (arith, file_end c.args.pages c.args.file (omega arith))
-
 pub returns : goal.returns
 unfolding file_start
 returns c =
