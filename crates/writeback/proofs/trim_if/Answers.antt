@@ -2,7 +2,6 @@
 use mathlib.Core.Path.{sym, ◌∙◌}
 use native.Mathlib.Omega.{arith}
 use Rattle.media.specs.Geometry.{pages_per_file}
-use Rattle.media.specs.Write.{Media, media_of}
 use Rattle.media.specs.Write.MediaWrite.{trim}
 use Rattle.media.proofs.Direct.{trim_applied}
 use Rattle.device.proofs.Plan.{spent-made, spent_unmade}
@@ -10,13 +9,9 @@ use Rattle.writeback.proofs.trim_if.Goals as goal
 
 pub returns-then-is_made : goal.returns-then-is_made
 returns-then-is_made c =
-    let media-of : Media = media_of c.args.media.now c.args.sizes.now in
     let a = c.args in
-    spent-made pages_per_file a.budget media-of a.needed a.wanted (trim a.file a.n) _ _ (sym c.is_made.ensures ∙ c.if-is_made.true) c.count_if.ensures
-    (c.trim.ensures.1 ∙ sym (trim_applied pages_per_file media-of a.file a.n (record { bytes = omega arith; sizes = omega arith; file = omega arith; range = omega arith }) (omega arith)))
+    spent-made pages_per_file a.budget _ a.needed a.wanted (trim a.file a.n) _ _ (sym c.is_made.ensures ∙ c.if-is_made.true) c.count_if.ensures
+    (c.trim.ensures.1 ∙ sym (trim_applied pages_per_file _ a.file a.n (record { bytes = omega arith; sizes = omega arith; file = omega arith; range = omega arith }) (omega arith)))
 
 pub returns : goal.returns
-returns c =
-    let media-of : Media = media_of c.args.media.now c.args.sizes.now in
-    let a = c.args in
-    spent_unmade pages_per_file a.budget media-of a.needed a.wanted (trim a.file a.n) _ (sym c.is_made.ensures ∙ c.if-is_made.false) c.count_if-2.ensures
+returns c = spent_unmade pages_per_file c.args.budget _ _ _ (trim c.args.file c.args.n) _ (sym c.is_made.ensures ∙ c.if-is_made.false) c.count_if-2.ensures

@@ -1,7 +1,6 @@
 -- `writing::cache_page` meets its contract: the slot k was the first free one.
-use Prim.Native.Nat.{◌+◌, ◌≤◌}
 use native.Mathlib.Omega.{arith}
-use Rattle.media.specs.Geometry.{file_bytes, media_bytes, file_start}
+use Rattle.media.specs.Geometry.{file_start}
 use Rattle.media.proofs.Geometry.{file_end}
 use Rattle.device.specs.Writing.{filled_page, cache_page}
 use Rattle.state_bytes.proofs.Inverse.{are_bytes_lem}
@@ -10,21 +9,15 @@ use Rattle.writing.proofs.cache_page.Goals as goal
 
 pub overflow_mul-from-2 : goal.overflow_mul-from-2
 unfolding file_start
-overflow_mul-from-2 c =
-    let ends : file_start c.args.pages c.args.file + file_bytes c.args.pages ≤ media_bytes c.args.pages = file_end _ _ (omega arith) in
-    omega (arith, ends)
+overflow_mul-from-2 c = omega (arith, file_end c.args.pages c.args.file (omega arith))
 
 pub overflow_add-from : goal.overflow_add-from
 unfolding file_start
-overflow_add-from c =
-    let ends : file_start c.args.pages c.args.file + file_bytes c.args.pages ≤ media_bytes c.args.pages = file_end _ _ (omega arith) in
-    omega (arith, ends)
+overflow_add-from c = omega (arith, file_end c.args.pages c.args.file (omega arith))
 
 pub fill_frame-requires : goal.fill_frame-requires
 unfolding file_start
-fill_frame-requires c =
-    let ends : file_start c.args.pages c.args.file + file_bytes c.args.pages ≤ media_bytes c.args.pages = file_end _ _ (omega arith) in
-    (omega arith, omega arith, omega arith, omega (arith, ends), omega arith)
+fill_frame-requires c = (omega arith, omega arith, omega arith, omega (arith, file_end c.args.pages c.args.file (omega arith)), omega arith)
 
 pub returns : goal.returns
 unfolding file_start filled_page cache_page

@@ -1,12 +1,8 @@
 -- `writing::grow` meets its contract: the larger of the two sizes.
 use mathlib.Core.Path.{◌∙◌}
-use native.Mathlib.Omega.{arith}
 use Rattle.state_bytes.proofs.Inverse.{are_bytes_lem}
 use Rattle.state_bytes.proofs.InPlace.{logical_changed}
 use Rattle.writing.proofs.grow.Goals as goal
-
-pub overflow_cast-max : goal.overflow_cast-max
-overflow_cast-max c = omega (arith, c.max.ensures)
 
 pub returns : goal.returns
 returns c =

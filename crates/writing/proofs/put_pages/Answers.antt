@@ -32,14 +32,8 @@ loop-from-preserved c =
       omega (arith, c.put_page.auto.frames, c.put_page.auto.state, c.loop-from.invariant.4),
     )
 
-pub shape_of-state-else-put_page : goal.shape_of-state-else-put_page
-shape_of-state-else-put_page c = omega (arith, c.put_page.auto.state, c.loop-from.invariant.4)
-
 pub returns-else-put_page : goal.returns-else-put_page
 returns-else-put_page c = λ stored. rest-stop (c.loop-from.invariant.0 stored) _ (sym c.put_page.ensures.0 ∙ c.if-put_page.false) (taken_no _ _ _ _ (c.put_page.ensures.1 stored) c.if-put_page.false)
-
-pub shape_of-state : goal.shape_of-state
-shape_of-state c = omega (arith, c.loop-from.invariant.4)
 
 pub returns : goal.returns
 returns c = λ stored. rest_end (c.loop-from.invariant.0 stored) (omega arith)

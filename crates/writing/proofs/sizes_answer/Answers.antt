@@ -1,6 +1,5 @@
 -- `writing::sizes_answer` meets its contract: the tests in the order of the definition.
 use mathlib.Core.Path.{sym, ◌∙◌}
-use Prim.Native.Nat.{◌<◌, ◌≤◌}
 use native.Mathlib.Omega.{arith}
 use borrow.Author.Tests.{le-leb, lt-leb}
 use Rattle.device.specs.Sizes.{sizes_tests, sizes_answer}
@@ -8,15 +7,11 @@ use Rattle.writing.proofs.sizes_answer.Goals as goal
 
 pub returns-then-n-limit : goal.returns-then-n-limit
 unfolding sizes_tests sizes_answer
-returns-then-n-limit c =
-    let h : c.args.n ≤ c.args.greatest = omega arith in
-    rw (sym c.in_order.ensures ∙ c.if-in_order.true, le-leb _ _ h)
+returns-then-n-limit c = rw (sym c.in_order.ensures ∙ c.if-in_order.true, le-leb c.args.n c.args.greatest (omega arith))
 
 pub returns-then-in_order : goal.returns-then-in_order
 unfolding sizes_tests sizes_answer
-returns-then-in_order c =
-    let past : c.args.greatest < c.args.n = omega arith in
-    rw (sym c.in_order.ensures ∙ c.if-in_order.true, lt-leb _ _ past)
+returns-then-in_order c = rw (sym c.in_order.ensures ∙ c.if-in_order.true, lt-leb c.args.n c.args.greatest (omega arith))
 
 pub returns : goal.returns
 unfolding sizes_tests sizes_answer
