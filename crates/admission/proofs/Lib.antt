@@ -1,3 +1,4 @@
 pub mod Freeing
+pub mod Indices
 pub mod Pass
 pub mod Soundness

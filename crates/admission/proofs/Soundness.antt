@@ -1,29 +1,27 @@
 -- Sound bytes: the tests of the code beside those of the definition.
-use mathlib.Core.Path.{◌≡◌, refl, sym, ◌∙◌}
+use mathlib.Core.Path.{◌≡◌, refl, sym, ap, ◌∙◌}
 use mathlib.Core.Logic.{◌≢◌}
 use mathlib.Core.Bool.{Bool, true, false, and-true}
-use mathlib.Core.List.{List}
+use mathlib.Core.List.{List, ◌++◌}
 use Prim.Native.Nat.{ℕ, ◌<◌}
 use native.Mathlib.Omega.{arith}
 use lib.ListN.{length, get_or}
-use borrow.Author.Tests.{lt-leb}
-use Rattle.answer.specs.declared.Refusal.{Refusal}
-use Rattle.answer.specs.declared.Answer.{Answer}
-use Rattle.answer.specs.declared.Answer.TheVariants.{Done}
-use Rattle.answer.specs.Coded.{Coded, done, BOOKS, coded_refusal, coded}
-use Rattle.answer.specs.Admission.{first_refusal}
-use Rattle.answer.proofs.Coded.{refusal-number}
+use borrow.Author.Tests.{lt-leb, eqb-true}
+use Rattle.answer.specs.Coded.{Coded, done, BOOKS, LINE}
+use Rattle.answer.specs.Admission.{Test, test, first_refusal}
+use Rattle.answer.proofs.Admission.{holds_at}
 use Rattle.media.specs.Geometry.{files, file_bytes, pages_per_file}
 use Rattle.scan.specs.Scan.{every, every_below}
 use Rattle.scan.proofs.Scan.{and_left, and_right, and_both, is_false, true-not-false, all_of_at}
-use Rattle.device.specs.declared.Slot.{Slot}
-use Rattle.device.specs.Admission.{mounted_tests, state_tests}
+use Rattle.device.specs.Admission.{media_shape, frames_shape, sizes_fit, device_tests, mounted_tests, state_tests}
 use Rattle.device.specs.Device.{slot_count}
 use Rattle.device.specs.Sizes.{in_order}
 use Rattle.device.specs.Sound.{in_range, holds_alone, sizes_beside, is_down, is_sound, sound_tests}
+use Rattle.media.specs.Write.{media_of}
+use Rattle.state_bytes.specs.InPlace.{state_shape}
 use Rattle.state_bytes.specs.Encoding.{state_bytes, slots_in, decode}
 use Rattle.state_bytes.proofs.InPlace.{decode-lengths, mark_read, slots_read}
-use Rattle.admission.specs.Tables.{none_cached, slot_table, table_after, slots_pass}
+use Rattle.admission.specs.Tables.{slots_pass}
 
 module _ (stored bytes : List ℕ) where
   abbrev sound : Bool
@@ -78,22 +76,6 @@ module _ (stored bytes : List ℕ) where
         let l : 1 < (decode bytes).mounted = rw (mark_read bytes e) (omega arith) in
         rw (lt-leb (decode bytes).mounted 1 l)
 
--- ---- what admission leaves
-
--- a refusal, and its table
-module _ (r : Refusal) (slots : List Slot) where
-  pub table_refused : none_cached ≡ table_after (coded_refusal r) slots
-  unfolding table_after
-  table_refused = rw (refusal-number r)
-
-pub table_done : (n : ℕ) (slots : List Slot) → slot_table pages_per_file slots ≡ table_after (done n) slots
-unfolding table_after
-table_done n slots = refl
-
--- where the answer is done
-pub table_is : (a : Answer) (n : ℕ) (slots : List Slot) (table : List ℕ) → a ≡ Done n → table ≡ table_after (coded a) slots → table ≡ slot_table pages_per_file slots
-table_is a n slots table q e = (rw q at e) ∙ sym (table_done n slots)
-
 -- the tests of a sound state
 module _ (stored bytes : List ℕ) (f : ℕ) (range : Bool) where
   pub rest-sound : (m : ℕ) (a : Coded) → is_sound pages_per_file stored (decode bytes) ≡ true → m ≡ (decode bytes).mounted
@@ -104,3 +86,20 @@ module _ (stored bytes : List ℕ) (f : ℕ) (range : Bool) where
   pub rest_unsound : is_sound pages_per_file stored (decode bytes) ≡ false → BOOKS ≡ first_refusal (state_tests pages_per_file stored (decode bytes) f range) (done 0)
   unfolding state_tests
   rest_unsound e = rw e
+
+-- where the first tests of the calls on a file pass, the lengths are right
+module _ (state sizes media frames : List ℕ) (e : done 0 ≡ first_refusal (state_shape state ++ device_tests pages_per_file (media_of media sizes) frames) (done 0)) where
+  abbrev tests : List Test
+  tests = state_shape state ++ device_tests pages_per_file (media_of media sizes) frames
+
+  holds : (k : ℕ) → (get_or tests k (test true LINE)).holds ≡ true
+  unfolding state_shape media_shape frames_shape sizes_fit
+  holds k = holds_at tests (done 0) refl (ap (λ (a : Coded). a.number) (sym e)) k
+
+  pub length-state : length state ≡ state_bytes
+  unfolding state_shape media_shape frames_shape sizes_fit
+  length-state = eqb-true _ _ (holds 0)
+
+  pub length-sizes : length sizes ≡ files
+  unfolding state_shape media_shape frames_shape sizes_fit
+  length-sizes = eqb-true _ _ (holds 2)

@@ -1,8 +1,6 @@
 -- The table of slots that admission fills in one pass over the bytes of the state: page p of file f is at place P × f + p, of P pages in
 -- a file.
 use Rattle.std.specs.Prelude.{ℕ, ◌+◌, ◌*◌, ◌/◌, ◌%◌, ◌<◌, ◌≡◌, Bool, true, cond, ◌&&◌, List, ltb, length, get_or, replicate}
-use Rattle.answer.specs.Coded.{Coded}
-use Rattle.answer.specs.Admission.{if_done}
 use Rattle.media.specs.Geometry.{files, pages_per_file}
 use Rattle.scan.specs.Scan.{every, every_below, first_index}
 use Rattle.device.specs.declared.Slot.{Slot}
@@ -21,10 +19,6 @@ slot_table P slots = each (files * P) (λ i. first_index (holds (i / P) (i % P))
 -- the slot that a table has for page p of file f; slot_count where there is no such page
 unfoldable pub slot_for : ℕ → List ℕ → ℕ → ℕ → ℕ
 slot_for P table f p = cond (ltb f files && ltb p P) (get_or table (P * f + p) 0) slot_count
-
--- what admission leaves: the slots of the state, or none on a refusal
-unfoldable pub table_after : Coded → List Slot → List ℕ
-table_after a slots = if_done a (slot_table pages_per_file slots) none_cached
 
 -- ---- the pass
 

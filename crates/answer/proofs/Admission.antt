@@ -9,8 +9,8 @@ use lib.ListN.{get_or}
 use borrow.Author.Tests.{eq-eqb}
 use borrow.Table.Steps.{cases}
 use Rattle.answer.specs.declared.Refusal.{Refusal}
-use Rattle.answer.specs.declared.Answer.{Answer}
-use Rattle.answer.specs.declared.Answer.TheVariants.{Done, Refused}
+use Rattle.std.specs.Prelude.{Result}
+use Rattle.std.specs.Prelude.{Ok, Err}
 use Rattle.answer.specs.Coded.{Coded, coded, done, refused, LINE, coded_refusal}
 use Rattle.answer.proofs.Coded.{refusal-number, coded_of}
 use Rattle.answer.specs.Admission.{Test, test, first_refusal, if_done}
@@ -109,13 +109,13 @@ first-refused (t ∷ ts) us a b r h e =
     cases t.holds (λ q. rw q (first-refused ts us a b r h (rw q at e))) (λ q. rw q (rw q at e))
 
 -- the answer of code that has made the tests: done, they all held
-pub answer-passed : (ts : List Test) (a : Answer) (n : ℕ) → refusing ts ≡ true → coded a ≡ first_refusal ts (done 0) → a ≡ Done n → passed ts ≡ true
-answer-passed ts a n h e q = done-passed ts (done 0) h (ap (λ (c : Coded). c.number) (sym (coded_of a (Done n) _ q e)))
+pub answer-passed : (ts : List Test) (a : Result ℕ Refusal) (n : ℕ) → refusing ts ≡ true → coded a ≡ first_refusal ts (done 0) → a ≡ Ok n → passed ts ≡ true
+answer-passed ts a n h e q = done-passed ts (done 0) h (ap (λ (c : Coded). c.number) (sym (coded_of a (Ok n) _ q e)))
 
 -- of code that has made the first tests: a refusal stands, and where it is done the rest decides
-module _ (ts us : List Test) (a : Answer) (e : coded a ≡ first_refusal ts (done 0)) where
-  pub then_refused : (r : Refusal) → a ≡ Refused r → coded_refusal r ≡ first_refusal (ts ++ us) (done 0)
-  then_refused r q = first-refused ts us (done 0) (done 0) r refl (coded_of a (Refused r) _ q e)
+module _ (ts us : List Test) (a : Result ℕ Refusal) (e : coded a ≡ first_refusal ts (done 0)) where
+  pub then_refused : (r : Refusal) → a ≡ Err r → coded_refusal r ≡ first_refusal (ts ++ us) (done 0)
+  then_refused r q = first-refused ts us (done 0) (done 0) r refl (coded_of a (Err r) _ q e)
 
-  pub then_rest : refusing ts ≡ true → (n : ℕ) → a ≡ Done n → first_refusal us (done 0) ≡ first_refusal (ts ++ us) (done 0)
+  pub then_rest : refusing ts ≡ true → (n : ℕ) → a ≡ Ok n → first_refusal us (done 0) ≡ first_refusal (ts ++ us) (done 0)
   then_rest h n q = sym (first-join ts us (done 0) ∙ first_all ts (first_refusal us (done 0)) (answer-passed ts a n h e q))

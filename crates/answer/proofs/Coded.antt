@@ -7,8 +7,8 @@ use native.Mathlib.Omega.{arith}
 use lib.Dec.{eqb}
 use Rattle.answer.specs.declared.Refusal.{Refusal}
 use Rattle.answer.specs.declared.Refusal.TheVariants.{Line, Shape, Media, Books, Down, NoFile, Range, NoRoom, Cut, TripForm, TripOrder, TripConflict, TripsTooLong}
-use Rattle.answer.specs.declared.Answer.{Answer}
-use Rattle.answer.specs.declared.Answer.TheVariants.{Done, Refused}
+use Rattle.std.specs.Prelude.{Result}
+use Rattle.std.specs.Prelude.{Ok, Err}
 use Rattle.answer.specs.Coded.{Coded, coded, done, coded_refusal}
 
 -- no refusal has number 0
@@ -32,9 +32,9 @@ pub number-done : (a : Coded) → a.number ≡ 0 → a ≡ done a.count
 number-done a e = ap (λ (k : ℕ). record { number = k; count = a.count }) e
 
 -- an answer's number has one digit, or it has two and the count is 0
-pub number_small : (a : Answer) → ((coded a).number < 10) ⊎ (((coded a).number < 100) × ((coded a).count ≡ 0))
-number_small (Done n) = inl (omega arith)
-number_small (Refused r) = go r
+pub number_small : (a : Result ℕ Refusal) → ((coded a).number < 10) ⊎ (((coded a).number < 100) × ((coded a).count ≡ 0))
+number_small (Ok n) = inl (omega arith)
+number_small (Err r) = go r
   where
     go : (r : Refusal) → ((coded_refusal r).number < 10) ⊎ (((coded_refusal r).number < 100) × ((coded_refusal r).count ≡ 0))
     go Line = inl (omega arith)
@@ -52,23 +52,23 @@ number_small (Refused r) = go r
     go TripsTooLong = inr (omega arith, refl)
 
 -- the answer with a number and a count
-decoded : Coded → Answer
+decoded : Coded → Result ℕ Refusal
 decoded c =
-    cond (eqb c.number 0) (Done c.count)
-    (cond (eqb c.number 1) (Refused Line)
-    (cond (eqb c.number 2) (Refused Shape)
-    (cond (eqb c.number 3) (Refused Media)
-    (cond (eqb c.number 4) (Refused Books)
-    (cond (eqb c.number 5) (Refused Down)
-    (cond (eqb c.number 6) (Refused NoFile)
-    (cond (eqb c.number 7) (Refused Range)
-    (cond (eqb c.number 8) (Refused NoRoom)
-    (cond (eqb c.number 9) (Refused (Cut c.count))
-    (cond (eqb c.number 10) (Refused TripForm)
-    (cond (eqb c.number 11) (Refused TripOrder)
-    (cond (eqb c.number 17) (Refused TripConflict) (Refused TripsTooLong)))))))))))))
+    cond (eqb c.number 0) (Ok c.count)
+    (cond (eqb c.number 1) (Err Line)
+    (cond (eqb c.number 2) (Err Shape)
+    (cond (eqb c.number 3) (Err Media)
+    (cond (eqb c.number 4) (Err Books)
+    (cond (eqb c.number 5) (Err Down)
+    (cond (eqb c.number 6) (Err NoFile)
+    (cond (eqb c.number 7) (Err Range)
+    (cond (eqb c.number 8) (Err NoRoom)
+    (cond (eqb c.number 9) (Err (Cut c.count))
+    (cond (eqb c.number 10) (Err TripForm)
+    (cond (eqb c.number 11) (Err TripOrder)
+    (cond (eqb c.number 17) (Err TripConflict) (Err TripsTooLong)))))))))))))
 
-decoded_refusal : (r : Refusal) → decoded (coded_refusal r) ≡ Refused r
+decoded_refusal : (r : Refusal) → decoded (coded_refusal r) ≡ Err r
 unfolding decoded
 decoded_refusal Line = refl
 decoded_refusal Shape = refl
@@ -84,15 +84,15 @@ decoded_refusal TripOrder = refl
 decoded_refusal TripConflict = refl
 decoded_refusal TripsTooLong = refl
 
-decoded_coded : (a : Answer) → decoded (coded a) ≡ a
+decoded_coded : (a : Result ℕ Refusal) → decoded (coded a) ≡ a
 unfolding decoded
-decoded_coded (Done n) = refl
-decoded_coded (Refused r) = decoded_refusal r
+decoded_coded (Ok n) = refl
+decoded_coded (Err r) = decoded_refusal r
 
 -- two answers with one number and count are one answer: a contract that gives `coded r` gives r
-pub coded_injective : (a b : Answer) → coded a ≡ coded b → a ≡ b
+pub coded_injective : (a b : Result ℕ Refusal) → coded a ≡ coded b → a ≡ b
 coded_injective a b e = sym (decoded_coded a) ∙ ap decoded e ∙ decoded_coded b
 
 -- what a contract says of an answer, said of the case that it is
-pub coded_of : (r s : Answer) (a : Coded) → r ≡ s → coded r ≡ a → coded s ≡ a
+pub coded_of : (r s : Result ℕ Refusal) (a : Coded) → r ≡ s → coded r ≡ a → coded s ≡ a
 coded_of r s a q e = sym (ap coded q) ∙ e

@@ -1,9 +1,7 @@
 -- Answers in the numbers of document 01, "When a call is turned down"; 10, 11, 17 and 18 are of document 02, §1 and §12.
-use Rattle.std.specs.Prelude.{ℕ}
+use Rattle.std.specs.Prelude.{ℕ, Result, Ok, Err}
 use Rattle.answer.specs.declared.Refusal.{Refusal}
 use Rattle.answer.specs.declared.Refusal.TheVariants.{Line, Shape, Media, Books, Down, NoFile, Range, NoRoom, Cut, TripForm, TripOrder, TripConflict, TripsTooLong}
-use Rattle.answer.specs.declared.Answer.{Answer}
-use Rattle.answer.specs.declared.Answer.TheVariants.{Done, Refused}
 
 -- what is printed of an answer
 pub record Coded : Type 0 where
@@ -57,7 +55,7 @@ TRIP_CONFLICT = refused 17
 abbrev pub TRIPS_TOO_LONG : Coded
 TRIPS_TOO_LONG = refused 18
 
--- the number and the count of each case of the enums
+-- the number and the count of each refusal
 abbrev pub coded_refusal : Refusal → Coded
 coded_refusal Line = LINE
 coded_refusal Shape = SHAPE
@@ -73,6 +71,11 @@ coded_refusal TripOrder = TRIP_ORDER
 coded_refusal TripConflict = TRIP_CONFLICT
 coded_refusal TripsTooLong = TRIPS_TOO_LONG
 
-abbrev pub coded : Answer → Coded
-coded (Done n) = done n
-coded (Refused r) = coded_refusal r
+abbrev pub coded : Result ℕ Refusal → Coded
+coded (Ok n) = done n
+coded (Err r) = coded_refusal r
+
+-- of a test that gives no count: where it passes, done with 0
+abbrev pub coded_test : {A : Type 0} → Result A Refusal → Coded
+coded_test (Ok x) = done 0
+coded_test (Err r) = coded_refusal r

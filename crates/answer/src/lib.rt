@@ -1,4 +1,4 @@
-// The answer of a call: done with a count, or refused for one of thirteen reasons.
+// The answer of a call is a `Result<usize, Refusal>`: done with a count, or refused for one of thirteen reasons.
 //
 // `coded` in specs/ gives each case its number and its count; every contract of the store speaks of answers through it.
 #![tactic(auto)]
@@ -7,7 +7,7 @@ ghost use Rattle.std.specs.Prelude.{◌≡◌};
 ghost use Rattle.answer.specs.Coded.{coded, coded_refusal};
 
 // The refusals, in the order of their numbers. A call on files tests the first nine in this order.
-#[derive(Clone, Copy)]
+#[derive(Clone, Copy, Debug, PartialEq, Eq)]
 pub enum Refusal {
     // The session line has none of the forms.
     Line,
@@ -38,69 +38,45 @@ pub enum Refusal {
     TripsTooLong,
 }
 
-#[derive(Clone, Copy)]
-pub enum Answer {
-    // Done, with a count.
-    Done(usize),
-    Refused(Refusal),
+// The number of a refusal: 1 to 11, 17 and 18.
+impl From<Refusal> for u8 {
+    ghost from_gives = { λ refusal n. n ≡ (coded_refusal refusal).number };
+
+    fn from(refusal: Refusal) -> u8 {
+        match refusal {
+            Refusal::Line => 1,
+            Refusal::Shape => 2,
+            Refusal::Media => 3,
+            Refusal::Books => 4,
+            Refusal::Down => 5,
+            Refusal::NoFile => 6,
+            Refusal::Range => 7,
+            Refusal::NoRoom => 8,
+            Refusal::Cut(_) => 9,
+            Refusal::TripForm => 10,
+            Refusal::TripOrder => 11,
+            Refusal::TripConflict => 17,
+            Refusal::TripsTooLong => 18,
+        }
+    }
 }
 
-// The number of an answer: 0 where it is done, 1 to 11, 17 and 18 for the refusals.
-pub fn number(a: Answer) -> u8
+// The number of an answer: 0 where it is done, and that of the refusal where it is not.
+pub fn number(a: Result<usize, Refusal>) -> u8
     ensures { result ≡ (coded a).number }
 {
     match a {
-        Answer::Done(_) => 0,
-        Answer::Refused(refusal) => refusal_number(refusal),
+        Ok(_) => 0,
+        Err(refusal) => refusal.into(),
     }
 }
 
 // The count of an answer: 0 for every refusal but CUT.
-pub fn count(a: Answer) -> usize
+pub fn count(a: Result<usize, Refusal>) -> usize
     ensures { result ≡ (coded a).count }
 {
     match a {
-        Answer::Done(n) => n,
-        Answer::Refused(refusal) => refusal_count(refusal),
-    }
-}
-
-fn refusal_number(refusal: Refusal) -> u8
-    ensures { result ≡ (coded_refusal refusal).number }
-{
-    match refusal {
-        Refusal::Line => 1,
-        Refusal::Shape => 2,
-        Refusal::Media => 3,
-        Refusal::Books => 4,
-        Refusal::Down => 5,
-        Refusal::NoFile => 6,
-        Refusal::Range => 7,
-        Refusal::NoRoom => 8,
-        Refusal::Cut(_) => 9,
-        Refusal::TripForm => 10,
-        Refusal::TripOrder => 11,
-        Refusal::TripConflict => 17,
-        Refusal::TripsTooLong => 18,
-    }
-}
-
-fn refusal_count(refusal: Refusal) -> usize
-    ensures { result ≡ (coded_refusal refusal).count }
-{
-    match refusal {
-        Refusal::Line => 0,
-        Refusal::Shape => 0,
-        Refusal::Media => 0,
-        Refusal::Books => 0,
-        Refusal::Down => 0,
-        Refusal::NoFile => 0,
-        Refusal::Range => 0,
-        Refusal::NoRoom => 0,
-        Refusal::Cut(n) => n,
-        Refusal::TripForm => 0,
-        Refusal::TripOrder => 0,
-        Refusal::TripConflict => 0,
-        Refusal::TripsTooLong => 0,
+        Ok(n) | Err(Refusal::Cut(n)) => n,
+        Err(_) => 0,
     }
 }

@@ -19,15 +19,15 @@ ghost use Rattle.boxstore.specs.Interface.{word_of, reply, in_word, span_word, d
 ghost use Rattle.media.specs.Moments.{media_at_entry, media_at_exit};
 ghost use Rattle.state_bytes.specs.Moments.{borrowed_at_entry, borrowed_at_exit};
 
-use answer::Answer;
+use answer::Refusal;
 use device::{FileSizes, Span};
 use trip_list::Lookup;
 
-// SHAPE as a word.
+// SHAPE as a word of the C interface.
 const SHAPE: u32 = 131072;
 
 // An answer as a word.
-fn answer_word(a: Answer) -> u32
+fn answer_word(a: Result<usize, Refusal>) -> u32
     requires { (coded a).count < 65536 }
     ensures { result ≡ word_of (coded a) }
 {
@@ -235,21 +235,19 @@ pub extern "C" fn boxstore_trim(media: &mut [u8], sizes: &mut [u32], file: usize
 // ---- trip lists
 
 // What was read, as a word; a trip that was found is put into the four numbers.
-fn put_lookup(list: &[u8], found: Lookup, trip: &mut [u32]) -> u32
+fn put_lookup(list: &[u8], found: Result<Lookup, Refusal>, trip: &mut [u32]) -> u32
     requires { (length trip.old ≡ 4) × ((looked list.now found).answer.count < 65536) }
     ensures { (result ≡ word_of (looked list.now found).answer)
         × (trip.new ≡ over_numbers (looked list.now found).trip trip.old) }
 {
     match found {
-        Lookup::Found(count, t) => {
-            trip[0] = t.minute;
-            trip[1] = t.metres;
-            trip[2] = t.driver;
-            trip[3] = t.letters;
-            count as u32
+        Ok(found) => {
+            if let Some(t) = found.trip {
+                trip.copy_from_slice(&[t.minute, t.metres, t.driver, t.letters]);
+            }
+            found.count as u32
         }
-        Lookup::None(count) => count as u32,
-        Lookup::Refused(refusal) => answer_word(Answer::Refused(refusal)),
+        Err(refusal) => answer_word(Err(refusal)),
     }
 }
 

@@ -1,12 +1,14 @@
 // The calls of the store, with the cache state by value: it goes in, and comes back beside the answer. The answer of a look is a call
 // of its own, `look_count`.
 //
-// A call borrows the media (bytes and stored sizes), the page frames, and buffers of its own. Start with `down_state` and a mount.
+// A call borrows the media (bytes and stored sizes), the page frames, and buffers of its own. Which of them it may change differs from
+// call to call, so no struct holds them: one with exclusive borrows would ask more of callers. Start with `down_state` and a mount.
 // The calls work on the bytes of the state, for callers that keep it so; here these bytes are made and read. The crate in brackets
 // has the call, and says what it does.
 #![tactic(auto)]
 
 ghost use Rattle.std.specs.Prelude.{◌≡◌, List, ℕ};
+ghost use Rattle.std.specs.Fn.{CalledAtMut};
 ghost use Rattle.answer.specs.Coded.{coded};
 ghost use Rattle.media.specs.Geometry.{pages_per_file};
 ghost use Rattle.device.specs.Device.{device_of};
@@ -17,11 +19,12 @@ ghost use Rattle.device.specs.Writing.{write};
 ghost use Rattle.device.specs.Truncating.{truncate};
 ghost use Rattle.device.specs.Syncing.{sync};
 ghost use Rattle.device.specs.Mounting.{mount, format};
-ghost use Rattle.state_bytes.specs.Encoding.{encode};
+ghost use Rattle.state_bytes.specs.Encoding.{encode, decode};
+ghost use Rattle.state_bytes.specs.Inverse.{Shaped};
 ghost use Rattle.media.specs.Moments.{media_at_entry, media_at_exit};
 ghost use Rattle.device.specs.Moments.{device_at_entry, device_at_exit};
 
-pub use answer::{Answer, Refusal};
+pub use answer::Refusal;
 pub use device::{CacheState, FileSizes, Outcome, SLOTS, Slot, Span, down_state};
 pub use media::{FILES, PAGE_BYTES, PAGES_PER_FILE};
 use state_bytes::STATE_BYTES;
@@ -31,12 +34,29 @@ pub use writing::{sizes_after, sizes_answer, truncate_sizes};
 fn bytes_of(cache: CacheState) -> [u8; STATE_BYTES]
     ensures { result ≡ encode cache }
 {
-    let mut bytes = [0u8; STATE_BYTES];
+    let mut bytes = [0; STATE_BYTES];
     state_bytes::encode(cache, &mut bytes);
     bytes
 }
 
-// Read (reading).
+// A call on the bytes of a state, and the state that they say after it.
+fn on_bytes<F: FnMut(&mut [u8]) -> Result<usize, Refusal>>(
+    cache: CacheState,
+    call: &mut F,
+) -> Outcome
+    requires { F.IsAlwaysCallable call.old }
+    ensures shaped { Shaped cache }
+    ensures called { (left : List ℕ) × CalledAtMut F.FnMut call.old (encode cache) result.answer call.new left × (result.cache ≡ decode left) }
+{
+    let mut state = bytes_of(cache);
+    let answer = call(&mut state);
+    Outcome {
+        answer,
+        cache: state_bytes::decode(&state),
+    }
+}
+
+// Read (reading). A read and a look hand back the state as it came, so they make its bytes and no more.
 pub fn read(
     media: &[u8],
     sizes: &[u32],
@@ -66,8 +86,7 @@ pub fn look_span(
 ) -> Span
     ensures { result ≡ look_span pages_per_file file position (device_at_entry media.now sizes.now frames.now cache) }
 {
-    let state = bytes_of(cache);
-    reading::look_span(media, sizes, frames, &state, file, position)
+    reading::look_span(media, sizes, frames, &bytes_of(cache), file, position)
 }
 
 // Look: the part itself, and never a copy.
@@ -84,12 +103,8 @@ pub fn look<'a>(
         (device_at_entry media.now sizes.now frames.now cache)) }
 {
     let span = look_span(media, sizes, frames, cache, file, position);
-    let from = span.from;
-    let end = from + span.count;
-    if span.cached {
-        return &frames[from..end];
-    }
-    &media[from..end]
+    let bytes = if span.cached { frames } else { media };
+    &bytes[span.from..span.from + span.count]
 }
 
 // The answer of a look (reading).
@@ -123,12 +138,10 @@ pub fn write(
     ensures { give (coded result.answer) (device_at_exit media.now sizes.now frames.new result.cache)
         ≡ write pages_per_file file position bytes.now (device_at_entry media.now sizes.now frames.old cache) }
 {
-    let mut state = bytes_of(cache);
-    let answer = writing::write(media, sizes, frames, &mut state, file, position, bytes);
-    Outcome {
-        answer,
-        cache: state_bytes::decode(&state),
-    }
+    on_bytes(
+        cache,
+        &mut |state| writing::write(media, sizes, frames, state, file, position, bytes),
+    )
 }
 
 // Truncate (writing).
@@ -143,12 +156,10 @@ pub fn truncate(
     ensures { give (coded result.answer) (device_at_exit media.now sizes.now frames.new result.cache)
         ≡ truncate pages_per_file file n (device_at_entry media.now sizes.now frames.old cache) }
 {
-    let mut state = bytes_of(cache);
-    let answer = writing::truncate(media, sizes, frames, &mut state, file, n);
-    Outcome {
-        answer,
-        cache: state_bytes::decode(&state),
-    }
+    on_bytes(
+        cache,
+        &mut |state| writing::truncate(media, sizes, frames, state, file, n),
+    )
 }
 
 // Sync (writeback).
@@ -163,12 +174,10 @@ pub fn sync(
     ensures { give (coded result.answer) (device_at_exit media.new sizes.new frames.now result.cache)
         ≡ sync pages_per_file file budget (device_at_entry media.old sizes.old frames.now cache) }
 {
-    let mut state = bytes_of(cache);
-    let answer = writeback::sync(media, sizes, frames, &mut state, file, budget);
-    Outcome {
-        answer,
-        cache: state_bytes::decode(&state),
-    }
+    on_bytes(
+        cache,
+        &mut |state| writeback::sync(media, sizes, frames, state, file, budget),
+    )
 }
 
 // Mount (writeback). The state that comes in is not looked at.
@@ -176,12 +185,10 @@ pub fn mount(media: &mut [u8], sizes: &mut [u32], cache: CacheState, budget: usi
     ensures { (frames : List ℕ) → give (coded result.answer) (device_of (media_at_exit media.new sizes.new) frames result.cache)
         ≡ mount pages_per_file budget (device_of (media_at_entry media.old sizes.old) frames cache) }
 {
-    let mut state = bytes_of(cache);
-    let answer = writeback::mount(media, sizes, &mut state, budget);
-    Outcome {
-        answer,
-        cache: state_bytes::decode(&state),
-    }
+    on_bytes(
+        cache,
+        &mut |state| writeback::mount(media, sizes, state, budget),
+    )
 }
 
 // Format (writeback). The state that comes in is not looked at.
@@ -189,10 +196,8 @@ pub fn format(media: &mut [u8], sizes: &mut [u32], cache: CacheState, budget: us
     ensures { (frames : List ℕ) → give (coded result.answer) (device_of (media_at_exit media.new sizes.new) frames result.cache)
         ≡ format pages_per_file budget (device_of (media_at_entry media.old sizes.old) frames cache) }
 {
-    let mut state = bytes_of(cache);
-    let answer = writeback::format(media, sizes, &mut state, budget);
-    Outcome {
-        answer,
-        cache: state_bytes::decode(&state),
-    }
+    on_bytes(
+        cache,
+        &mut |state| writeback::format(media, sizes, state, budget),
+    )
 }

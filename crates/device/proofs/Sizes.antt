@@ -8,8 +8,8 @@ use Rattle.answer.specs.Coded.{coded, done, BOOKS, RANGE}
 use Rattle.answer.proofs.Coded.{coded_of}
 use Rattle.answer.proofs.Admission.{if_refused, passed_at, answer-passed}
 use Rattle.answer.specs.declared.Refusal.{Refusal}
-use Rattle.answer.specs.declared.Answer.{Answer}
-use Rattle.answer.specs.declared.Answer.TheVariants.{Done, Refused}
+use Rattle.std.specs.Prelude.{Result}
+use Rattle.std.specs.Prelude.{Ok, Err}
 use Rattle.device.specs.declared.FileSizes.{FileSizes}
 use Rattle.device.specs.Sizes.{order_tests, in_order, truncated_sizes, sizes_tests, sizes_answer, sizes_after}
 use Rattle.scan.proofs.Scan.{all_of_at}
@@ -46,16 +46,16 @@ module _ (greatest : ℕ) where
     sizes-done e h = (rw (e, le-leb n greatest h), rw (e, le-leb n greatest h))
 
 -- what an answer of the code to the rule shows
-module _ (greatest n : ℕ) (s : FileSizes) (a : Answer) (e : coded a ≡ sizes_answer greatest n s) where
-  pub rule_refused : (x : Refusal) → a ≡ Refused x → s ≡ sizes_after greatest n s
+module _ (greatest n : ℕ) (s : FileSizes) (a : Result ℕ Refusal) (e : coded a ≡ sizes_answer greatest n s) where
+  pub rule_refused : (x : Refusal) → a ≡ Err x → s ≡ sizes_after greatest n s
   unfolding sizes_after
-  rule_refused x q = sym (if_refused (sizes_answer greatest n s) x (truncated_sizes n s) s (coded_of a (Refused x) _ q e))
+  rule_refused x q = sym (if_refused (sizes_answer greatest n s) x (truncated_sizes n s) s (coded_of a (Err x) _ q e))
 
-  module _ (k : ℕ) (q : a ≡ Done k) where
+  module _ (k : ℕ) (q : a ≡ Ok k) where
     pub rule_fits : n ≤ greatest
     unfolding sizes_tests sizes_answer
     rule_fits = leb-true _ _ (passed_at (sizes_tests greatest n s) (answer-passed (sizes_tests greatest n s) a k refl e q) 1)
 
     pub rule_done : truncated_sizes n s ≡ sizes_after greatest n s
     unfolding sizes_after
-    rule_done = rw (← (coded_of a (Done k) _ q e))
+    rule_done = rw (← (coded_of a (Ok k) _ q e))

@@ -7,13 +7,14 @@
 ghost use Rattle.std.specs.Prelude.{◌≡◌};
 ghost use Rattle.device.specs.Device.{free_slot, no_slots, down_state};
 
-use answer::Answer;
+use answer::Refusal;
 
 // At most this many pages are cached, over all files together.
 pub const SLOTS: usize = 24;
 
-// A slot of the cache: used or free, and the page that it holds. A free slot carries file 0 and page 0.
-#[derive(Clone, Copy)]
+// A slot of the cache: used or free, and the page that it holds. A free slot carries file 0 and page 0. Each field is a byte of the
+// state, which may have any value, so `used` is no bool; nor is `mounted`.
+#[derive(Clone, Copy, Debug, PartialEq, Eq)]
 pub struct Slot {
     // 1 where it is used, 0 where it is free.
     pub used: u8,
@@ -22,7 +23,7 @@ pub struct Slot {
 }
 
 // The cache state (document 01: the books).
-#[derive(Clone, Copy)]
+#[derive(Clone, Copy, Debug, PartialEq, Eq)]
 pub struct CacheState {
     // 1 where the device is mounted, 0 where it is down (the up mark).
     pub mounted: u8,
@@ -34,15 +35,15 @@ pub struct CacheState {
 }
 
 // The three sizes of one file.
-#[derive(Clone, Copy)]
+#[derive(Clone, Copy, Debug, PartialEq, Eq)]
 pub struct FileSizes {
     pub logical: u32,
     pub floor: u32,
     pub stored: u32,
 }
 
-// Where a part lies: in the page frames or in the media, from an index on, so many bytes.
-#[derive(Clone, Copy)]
+// Where a part lies: in the page frames where it is cached, else in the media, from an index on, so many bytes.
+#[derive(Clone, Copy, Debug, PartialEq, Eq)]
 pub struct Span {
     pub cached: bool,
     pub from: usize,
@@ -50,9 +51,9 @@ pub struct Span {
 }
 
 // What a call returns: its answer, beside the cache state that it leaves.
-#[derive(Clone, Copy)]
+#[derive(Clone, Copy, Debug, PartialEq, Eq)]
 pub struct Outcome {
-    pub answer: Answer,
+    pub answer: Result<usize, Refusal>,
     pub cache: CacheState,
 }
 

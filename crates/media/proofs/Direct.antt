@@ -1,24 +1,21 @@
 -- Laws of the media asked directly: what each answer says, and what it leaves.
 use mathlib.Core.Path.{◌≡◌, refl, sym, ap}
-use mathlib.Core.Logic.{◌≢◌}
+use mathlib.Core.Logic.{◌≢◌, ◌⊎◌, ⊎_elim}
 use mathlib.Core.List.{List, [], ◌∷◌}
 use Prim.Native.Nat.{ℕ, ◌<◌, ◌≤◌}
 use native.Mathlib.Omega.{arith}
 use lib.ListN.{length}
-use borrow.Author.Tests.{eqb-true, ltb-true, leb-true, eq-eqb, ne_eqb, lt-ltb, le-ltb, le-leb, lt-leb}
+use borrow.Author.Tests.{eq-eqb, ne_eqb, lt-ltb, le-ltb, le-leb, lt-leb}
 use Rattle.answer.specs.declared.Refusal.{Refusal}
-use Rattle.answer.specs.declared.Answer.{Answer}
-use Rattle.answer.specs.declared.Answer.TheVariants.{Done}
-use Rattle.answer.specs.Coded.{Coded, coded, coded_refusal, done, SHAPE, NO_FILE, RANGE}
+use Rattle.answer.specs.Coded.{Coded, coded_refusal, done, SHAPE, NO_FILE, RANGE}
 use Rattle.answer.specs.Admission.{first_refusal}
-use Rattle.answer.proofs.Coded.{coded_of}
-use Rattle.answer.proofs.Admission.{holds_at, if_refused, first-passed, first-refused}
+use Rattle.answer.proofs.Admission.{if_refused, first-passed, first-refused}
 use Rattle.memory.specs.Bytes.{part, overwrite}
 use Rattle.memory.proofs.Bytes.{length_part}
 use Rattle.media.specs.Geometry.{files, page_bytes, file_bytes, media_bytes, page_start}
 use Rattle.media.specs.Write.{Media, media_of, size_at, apply, InLimits}
 use Rattle.media.specs.Write.MediaWrite.{page, size, trim}
-use Rattle.media.specs.Direct.{page_answer, page_after, size_tests, size_answer, size_after, stored_test, trim_answer, trim_after}
+use Rattle.media.specs.Direct.{page_answer, page_after, size_tests, size_answer, size_after, Admitted, stored_test, trim_answer, trim_after}
 use Rattle.media.proofs.Geometry.{file_end, page_end}
 
 -- ---- PAGE
@@ -33,14 +30,17 @@ module _ (page bytes : List ℕ) where
   unfolding page_answer
   page-shape h = let e : SHAPE ≡ page_answer page bytes = rw (ne_eqb _ _ h) in (e, page-unchanged e)
 
-  module _ (h : length page ≡ page_bytes) where
-    pub bytes-shape : length bytes ≢ page_bytes → (SHAPE ≡ page_answer page bytes) × (page ≡ page_after page bytes)
-    unfolding page_answer
-    bytes-shape k = let e : SHAPE ≡ page_answer page bytes = rw (eq-eqb _ _ h, ne_eqb _ _ k) in (e, page-unchanged e)
+  pub bytes-shape : length page ≡ page_bytes → length bytes ≢ page_bytes → (SHAPE ≡ page_answer page bytes) × (page ≡ page_after page bytes)
+  unfolding page_answer
+  bytes-shape h k = let e : SHAPE ≡ page_answer page bytes = rw (eq-eqb _ _ h, ne_eqb _ _ k) in (e, page-unchanged e)
 
-    pub page-done : length bytes ≡ page_bytes → (done 0 ≡ page_answer page bytes) × (bytes ≡ page_after page bytes)
-    unfolding page_answer page_after
-    page-done k = let e : done 0 ≡ page_answer page bytes = rw (eq-eqb _ _ h, eq-eqb _ _ k) in (e, rw (← e))
+  -- both, of the first that fails
+  pub lengths-shape : (length page ≢ page_bytes) ⊎ ((length page ≡ page_bytes) × (length bytes ≢ page_bytes)) → (SHAPE ≡ page_answer page bytes) × (page ≡ page_after page bytes)
+  lengths-shape h = ⊎_elim page-shape (λ (q, n). bytes-shape q n) h
+
+  pub page-done : length page ≡ page_bytes → length bytes ≡ page_bytes → (done 0 ≡ page_answer page bytes) × (bytes ≡ page_after page bytes)
+  unfolding page_answer page_after
+  page-done h k = let e : done 0 ≡ page_answer page bytes = rw (eq-eqb _ _ h, eq-eqb _ _ k) in (e, rw (← e))
 
 -- PAGE with page p of file f borrowed from the media does what `apply` says
 pub page_in-place : (P : ℕ) (m : Media) (f p : ℕ) (bytes : List ℕ) → length m.bytes ≡ media_bytes P → InLimits P (page f p bytes)
@@ -57,41 +57,26 @@ module _ (P : ℕ) (m : Media) (f n : ℕ) where
   unfolding size_tests size_answer
   size-shape h = rw (ne_eqb _ _ h)
 
-  module _ (h : length m.bytes ≡ media_bytes P) where
-    pub sizes-shape : length m.sizes ≢ files → SHAPE ≡ size_answer P m f n
+  pub sizes-shape : length m.bytes ≡ media_bytes P → length m.sizes ≢ files → SHAPE ≡ size_answer P m f n
+  unfolding size_tests size_answer
+  sizes-shape h k = rw (eq-eqb _ _ h, ne_eqb _ _ k)
+
+  -- both, of the first that fails
+  pub media-shape : (length m.bytes ≢ media_bytes P) ⊎ ((length m.bytes ≡ media_bytes P) × (length m.sizes ≢ files)) → SHAPE ≡ size_answer P m f n
+  media-shape h = ⊎_elim size-shape (λ (q, n). sizes-shape q n) h
+
+  module _ (h : length m.bytes ≡ media_bytes P) (k : length m.sizes ≡ files) where
+    pub size_no_file : files ≤ f → NO_FILE ≡ size_answer P m f n
     unfolding size_tests size_answer
-    sizes-shape k = rw (eq-eqb _ _ h, ne_eqb _ _ k)
+    size_no_file l = rw (eq-eqb _ _ h, eq-eqb _ _ k, le-ltb _ _ l)
 
-    module _ (k : length m.sizes ≡ files) where
-      pub size_no_file : files ≤ f → NO_FILE ≡ size_answer P m f n
-      unfolding size_tests size_answer
-      size_no_file l = rw (eq-eqb _ _ h, eq-eqb _ _ k, le-ltb _ _ l)
+    pub size-range : f < files → file_bytes P < n → RANGE ≡ size_answer P m f n
+    unfolding size_tests size_answer
+    size-range l r = rw (eq-eqb _ _ h, eq-eqb _ _ k, lt-ltb _ _ l, lt-leb _ _ r)
 
-      pub size-range : f < files → file_bytes P < n → RANGE ≡ size_answer P m f n
-      unfolding size_tests size_answer
-      size-range l r = rw (eq-eqb _ _ h, eq-eqb _ _ k, lt-ltb _ _ l, lt-leb _ _ r)
-
-      pub size-done : f < files → n ≤ file_bytes P → done 0 ≡ size_answer P m f n
-      unfolding size_tests size_answer
-      size-done l r = rw (eq-eqb _ _ h, eq-eqb _ _ k, lt-ltb _ _ l, le-leb _ _ r)
-
--- what SIZE has tested where it is done
-pub record Admitted (P : ℕ) (m : Media) (f n : ℕ) : Type 0 where
-  pub bytes : length m.bytes ≡ media_bytes P
-  pub sizes : length m.sizes ≡ files
-  pub file : f < files
-  pub range : n ≤ file_bytes P
-
-pub admitted : (P : ℕ) (m : Media) (f n : ℕ) (r : Answer) (k : ℕ) → coded r ≡ size_answer P m f n → r ≡ Done k → Admitted P m f n
-unfolding size_tests size_answer
-admitted P m f n r k e d =
-    let z : (size_answer P m f n).number ≡ 0 = ap (λ (a : Coded). a.number) (sym (coded_of r (Done k) (size_answer P m f n) d e)) in
-    record {
-      bytes = eqb-true _ _ (holds_at (size_tests P m f n) (done 0) refl z 0);
-      sizes = eqb-true _ _ (holds_at (size_tests P m f n) (done 0) refl z 1);
-      file = ltb-true _ _ (holds_at (size_tests P m f n) (done 0) refl z 2);
-      range = leb-true _ _ (holds_at (size_tests P m f n) (done 0) refl z 3);
-    }
+    pub size-done : f < files → n ≤ file_bytes P → done 0 ≡ size_answer P m f n
+    unfolding size_tests size_answer
+    size-done l r = rw (eq-eqb _ _ h, eq-eqb _ _ k, lt-ltb _ _ l, le-leb _ _ r)
 
 module _ (P : ℕ) (m : Media) (f n : ℕ) where
   -- SIZE is done on what it admits; TRIM too, unless n is above the stored size

@@ -1,5 +1,5 @@
 -- The media asked directly: what each write answers, and what it leaves in all it borrowed.
-use Rattle.std.specs.Prelude.{ℕ, List, [], ◌∷◌, ◌++◌, ltb, leb, eqb, length}
+use Rattle.std.specs.Prelude.{ℕ, ◌≡◌, ◌<◌, ◌≤◌, List, [], ◌∷◌, ◌++◌, ltb, leb, eqb, length}
 use Rattle.answer.specs.Coded.{Coded, done, SHAPE, NO_FILE, RANGE}
 use Rattle.answer.specs.Admission.{Test, test, first_refusal, if_done}
 use Rattle.media.specs.Geometry.{files, page_bytes, file_bytes, media_bytes}
@@ -26,6 +26,13 @@ size_tests P m f n =
     ∷ test (ltb f files) NO_FILE
     ∷ test (leb n (file_bytes P)) RANGE
     ∷ []
+
+-- what it has tested where it is done
+pub record Admitted (P : ℕ) (m : Media) (f n : ℕ) : Type 0 where
+  pub bytes : length m.bytes ≡ media_bytes P
+  pub sizes : length m.sizes ≡ files
+  pub file : f < files
+  pub range : n ≤ file_bytes P
 
 unfoldable pub size_answer : ℕ → Media → ℕ → ℕ → Coded
 size_answer P m f n = first_refusal (size_tests P m f n) (done 0)

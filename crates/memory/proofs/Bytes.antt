@@ -125,6 +125,9 @@ overwrite-cut (x ∷ xs) zero [] h = refl
 overwrite-cut (x ∷ xs) zero (y ∷ ys) h =
     rw zero-add (ap (λ (l : List ℕ). y ∷ l) (rw zero-add at (overwrite-cut xs zero ys (omega arith))))
 
+pub overwrite-front : (xs ys : List ℕ) (n : ℕ) → length ys ≡ n → n ≤ length xs → ys ++ drop n xs ≡ overwrite xs 0 ys
+overwrite-front xs ys n e h = rw (← e) (rw zero-add at (sym (overwrite-cut xs 0 ys (omega arith))))
+
 -- one list after another
 pub overwrite-join_at : (xs : List ℕ) (a : ℕ) (ys zs : List ℕ) → overwrite xs a (ys ++ zs) ≡ overwrite (overwrite xs a ys) (a + length ys) zs
 overwrite-join_at [] a ys zs = refl

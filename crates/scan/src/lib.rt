@@ -4,15 +4,9 @@
 ghost use Rattle.std.specs.Prelude.{◌≡◌, eqb};
 ghost use Rattle.scan.specs.Scan.{every};
 
-// Whether all bytes are 0. The loop goes to the end, so that it becomes vector code.
+// Whether all bytes are 0. All of them are looked at, so that the chain becomes vector code.
 pub fn all_zero(bytes: &[u8]) -> bool
     ensures { result ≡ every (λ b. eqb b 0) bytes.now }
 {
-    let mut bits = 0u8;
-    let mut i = 0;
-    while i < bytes.len() {
-        bits = bits | bytes[i];
-        i += 1;
-    }
-    bits == 0
+    bytes.iter().fold(0u8, |bits, b| bits | b) == 0
 }

@@ -3,14 +3,12 @@
 // It reads its input in blocks and keeps one block, one line and one block's output, whatever the length of the input or of a line.
 #![tactic(auto)]
 
-ghost use Rattle.std.specs.Prelude.{◌≡◌, true, ◌*◌, ◌≤◌, ◌<◌, length};
+ghost use Rattle.std.specs.Prelude.{◌≡◌, MatchOption, IfOk, OnOk};
 ghost use Rattle.std.specs.Io.KnownBytes.{Appends};
 ghost use Rattle.media.specs.Geometry.{pages_per_file};
 ghost use Rattle.media.specs.Write.{media_of};
 ghost use Rattle.device.specs.Device.{device_of, down_state};
 ghost use Rattle.session_run.specs.Session.{start_device};
-ghost use Rattle.session_run.specs.Feeding.{feed, last_end, reply_bytes};
-ghost use Rattle.session_run.specs.Steps.{Stepped};
 ghost use Rattle.device.specs.Moments.{device_at_entry, device_at_exit};
 ghost use Rattle.session.specs.Served.{GoesOn, Ends, Replies, Prints};
 
@@ -20,188 +18,107 @@ use std::io::{ErrorKind, Read, Write};
 // As many bytes are read at a time.
 const BLOCK_BYTES: usize = 1024;
 
-// The session after some input, and how many bytes of the output it printed.
+// There is room for a line for each of them.
+const OUTPUT_BYTES: usize = BLOCK_BYTES * session_run::REPLY_BYTES;
+
+// Reading or writing failed, and standard error says how; or the turns are used up.
 #[derive(Clone, Copy)]
-struct Printed {
-    session: Session,
-    count: usize,
-}
+struct Failed;
 
-// Runs a block of input: what it gives stands at the front of the output.
-fn run_block(
-    media: &mut [u8],
-    sizes: &mut [u32],
-    frames: &mut [u8],
-    session: Session,
-    input: &[u8],
-    output: &mut [u8],
-) -> Printed
-    requires { reply_bytes * length input.now ≤ length output.old }
-    ensures { Stepped (length output.old)
-        (feed pages_per_file input.now (device_at_entry media.old sizes.old frames.old session.cache) session.line)
-        (device_at_exit media.new sizes.new frames.new result.session.cache) result.session.line
-        output.old output.new result.count }
+// Writes text to standard output. Where that fails, standard error says how.
+fn write_out<W: Write, E: Eprint>(writer: &mut W, rt: &E, text: &[u8]) -> Result<(), Failed>
+    ensures { OnOk result (Appends (W.contents writer.old) (W.contents writer.new) text.now) }
 {
-    let fed = session_run::feed(media, sizes, frames, session, input, output);
-    let answer = fed.answer;
-    let next = fed.session;
-    Printed {
-        session: next,
-        count: answer::count(answer),
-    }
+    writer.write_all(text).map_err(|e| {
+        let _ = eprintln!(rt; "session: standard output: {e}");
+        Failed
+    })
 }
 
-// Ends the input: a last line that lacks its LF is run.
-fn run_end(
-    media: &mut [u8],
-    sizes: &mut [u32],
-    frames: &mut [u8],
-    session: Session,
-    output: &mut [u8],
-) -> Printed
-    requires { reply_bytes ≤ length output.old }
-    ensures { Stepped (length output.old)
-        (feed pages_per_file (last_end session.line) (device_at_entry media.old sizes.old frames.old session.cache) session.line)
-        (device_at_exit media.new sizes.new frames.new result.session.cache) result.session.line
-        output.old output.new result.count }
-{
-    let fed = session_run::finish(media, sizes, frames, session, output);
-    let answer = fed.answer;
-    let next = fed.session;
-    Printed {
-        session: next,
-        count: answer::count(answer),
-    }
-}
-
-// Writes text to standard output, and answers whether that went well. If not, it says so on standard error.
-fn write_out<W: Write, E: Eprint>(writer: &mut W, rt: &E, text: &[u8]) -> bool
-    ensures { result ≡ true → Appends (W.contents writer.old) (W.contents writer.new) text.now }
-{
-    match writer.write_all(text) {
-        Ok(()) => true,
-        Err(e) => {
-            let _ = eprintln!(rt; "session: standard output: {e}");
-            false
-        }
-    }
-}
-
-// The session after a block of input, whether to go on, and whether the input has ended and all that it prints was written.
-#[derive(Clone, Copy)]
-struct Turn {
-    session: Session,
-    more: bool,
-    ended: bool,
-}
-
-// Reads a block, runs it and writes what it prints. A read that a signal interrupts takes nothing, and the session goes on.
+// Reads a block, runs it and writes what it prints; the session after it comes back. At the end of the input what that prints is
+// written, and no session comes back. A read that a signal interrupts takes nothing, and the session goes on. The parts of the device are
+// lent as `feed` takes them: a struct of them would be taken apart here.
 fn serve_block<R: Read, W: Write, E: Eprint>(
     media: &mut [u8],
     sizes: &mut [u32],
     frames: &mut [u8],
     session: Session,
-    input: &mut [u8],
-    output: &mut [u8],
+    input: &mut [u8; BLOCK_BYTES],
+    output: &mut [u8; OUTPUT_BYTES],
     reader: &mut R,
     writer: &mut W,
     rt: &E,
-) -> Turn
-    requires { (reply_bytes * length input.old ≤ length output.old) × (reply_bytes ≤ length output.old) }
-    ensures goes_on { result.more ≡ true → GoesOn (R.remaining reader.old) (R.remaining reader.new) (W.contents writer.old) (W.contents writer.new)
+) -> Result<Option<Session>, Failed>
+    ensures { IfOk result (λ next. MatchOption next
+        (Ends (R.remaining reader.old) (W.contents writer.old) (W.contents writer.new)
+        (device_at_entry media.old sizes.old frames.old session.cache) session.line)
+        (λ after. GoesOn (R.remaining reader.old) (R.remaining reader.new) (W.contents writer.old) (W.contents writer.new)
         (device_at_entry media.old sizes.old frames.old session.cache) session.line
-        (device_at_exit media.new sizes.new frames.new result.session.cache) result.session.line }
-    ensures ends { result.ended ≡ true → 0 < length input.old → Ends (R.remaining reader.old) (W.contents writer.old) (W.contents writer.new)
-        (device_at_entry media.old sizes.old frames.old session.cache) session.line }
+        (device_at_exit media.new sizes.new frames.new after.cache) after.line)) }
 {
     match reader.read(input) {
         Ok(0) => {
-            let last = run_end(media, sizes, frames, session, output);
-            let n = last.count;
-            let after = last.session;
-            Turn {
-                session: after,
-                more: false,
-                ended: write_out(writer, rt, &output[..n]),
-            }
+            let last = session_run::finish(media, sizes, frames, session, output);
+            write_out(writer, rt, &output[..answer::count(last.answer)])?;
+            Ok(None)
         }
         Ok(n) => {
-            let block = run_block(media, sizes, frames, session, &input[..n], output);
-            let k = block.count;
-            let next = block.session;
-            Turn {
-                session: next,
-                more: write_out(writer, rt, &output[..k]),
-                ended: false,
-            }
+            let block = session_run::feed(media, sizes, frames, session, &input[..n], output);
+            write_out(writer, rt, &output[..answer::count(block.answer)])?;
+            Ok(Some(block.session))
         }
+        Err(e) if e.kind() == ErrorKind::Interrupted => Ok(Some(session)),
         Err(e) => {
-            let is_interrupted = e.kind() == ErrorKind::Interrupted;
-            if !is_interrupted {
-                let _ = eprintln!(rt; "session: standard input: {e}");
-            }
-            Turn {
-                session,
-                more: is_interrupted,
-                ended: false,
-            }
+            let _ = eprintln!(rt; "session: standard input: {e}");
+            Err(Failed)
         }
     }
 }
 
 // Runs blocks until the input ends, on media that are all 0. A proved loop has to end, and nothing says that the input does: so it
-// counts its turns down from a number that no run uses up. It answers whether the input ended and all that it prints was written.
+// makes as many turns as no run uses up.
 fn run<R: Read, W: Write, E: Eprint>(
     media: &mut [u8],
     sizes: &mut [u32],
     frames: &mut [u8],
-    input: &mut [u8],
-    output: &mut [u8],
+    input: &mut [u8; BLOCK_BYTES],
+    output: &mut [u8; OUTPUT_BYTES],
     reader: &mut R,
     writer: &mut W,
     rt: &E,
-) -> bool
-    requires { (device_of (media_of media.old sizes.old) frames.old down_state ≡ start_device pages_per_file)
-        × (reply_bytes * length input.old ≤ length output.old) × (reply_bytes ≤ length output.old) }
-    ensures { result ≡ true → 0 < length input.old → Replies (R.remaining reader.old) (W.contents writer.old) (W.contents writer.new) }
+) -> Result<(), Failed>
+    requires { device_of (media_of media.old sizes.old) frames.old down_state ≡ start_device pages_per_file }
+    ensures { OnOk result (Replies (R.remaining reader.old) (W.contents writer.old) (W.contents writer.new)) }
 {
     let mut session = session_run::start();
-    let mut turns = u64::MAX;
-    while turns > 0 {
+    for _ in 0..u64::MAX {
         let next = serve_block(
             media, sizes, frames, session, input, output, reader, writer, rt,
-        );
-        if next.more {
-            let after = next.session;
-            session = after;
-            turns -= 1;
-        } else {
-            return next.ended;
+        )?;
+        match next {
+            Some(after) => session = after,
+            None => return Ok(()),
         }
     }
-    false
+    Err(Failed)
 }
 
-// Prints the header, and runs the session. It answers whether the input ended and all that it prints was written.
+// Prints the header, and runs the session.
 fn print_session<R: Read, W: Write, E: Eprint>(
     media: &mut [u8],
     sizes: &mut [u32],
     frames: &mut [u8],
-    input: &mut [u8],
-    output: &mut [u8],
+    input: &mut [u8; BLOCK_BYTES],
+    output: &mut [u8; OUTPUT_BYTES],
     reader: &mut R,
     writer: &mut W,
     rt: &E,
-) -> bool
-    requires { (device_of (media_of media.old sizes.old) frames.old down_state ≡ start_device pages_per_file)
-        × (reply_bytes * length input.old ≤ length output.old) × (reply_bytes ≤ length output.old) }
-    ensures { result ≡ true → 0 < length input.old → Prints (R.remaining reader.old) (W.contents writer.old) (W.contents writer.new) }
+) -> Result<(), Failed>
+    requires { device_of (media_of media.old sizes.old) frames.old down_state ≡ start_device pages_per_file }
+    ensures { OnOk result (Prints (R.remaining reader.old) (W.contents writer.old) (W.contents writer.new)) }
 {
-    let header = session_run::header();
-    if write_out(writer, rt, &header) {
-        return run(media, sizes, frames, input, output, reader, writer, rt);
-    }
-    false
+    write_out(writer, rt, &session_run::header())?;
+    run(media, sizes, frames, input, output, reader, writer, rt)
 }
 
 fn main(rt: HostRuntime) {
@@ -209,8 +126,8 @@ fn main(rt: HostRuntime) {
     let mut sizes = [0u32; 8];
     let mut frames = [0u8; 6144];
     let mut input = [0u8; BLOCK_BYTES];
-    let mut output = [0u8; BLOCK_BYTES * session_run::REPLY_BYTES];
-    print_session(
+    let mut output = [0u8; OUTPUT_BYTES];
+    let _ = print_session(
         &mut media,
         &mut sizes,
         &mut frames,

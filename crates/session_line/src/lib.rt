@@ -4,306 +4,195 @@
 ghost use Rattle.std.specs.Prelude.{◌≡◌, true, ◌+◌, ◌*◌, ◌≤◌, ◌<◌, length, take, drop};
 ghost use Rattle.answer.specs.Coded.{coded};
 ghost use Rattle.memory.specs.Bytes.{overwrite};
-ghost use Rattle.scan.specs.Scan.{every, first_index};
-ghost use Rattle.text.specs.Decimal.{is_digit, value, decimal};
-ghost use Rattle.session_line.specs.Grammar.{is_number, parse};
-ghost use Rattle.session_line.specs.Reply.{hex_digit, hex, reply_line, print_answer, printed};
-ghost use Rattle.session_line.specs.Parser.{is_comma, rest_fields, limits_of, with_values, Fitting, Values, Within};
+ghost use Rattle.text.specs.Decimal.{decimal};
+ghost use Rattle.text.specs.Marks.{fields};
+ghost use Rattle.session_line.specs.Grammar.{parse};
+ghost use Rattle.session_line.specs.Reply.{hex, reply_line, print_answer, printed};
+ghost use Rattle.session_line.specs.Parser.{number, numbers, Within};
 ghost use Rattle.session_line.specs.Request.{spelled};
 
-use answer::{Answer, Refusal};
+use answer::Refusal;
+use itoa::Buffer;
 
 // What a line asks for.
 #[derive(Clone, Copy)]
 pub enum Request {
-    // The budget.
-    Format(usize),
-    // The budget.
-    Mount(usize),
-    // File, position, length, and the value of every byte.
-    Write(usize, usize, usize, u8),
-    // File and size.
-    Truncate(usize, usize),
-    // File and budget.
-    Sync(usize, usize),
-    // File, position and length.
-    Read(usize, usize, usize),
-    // The line has none of the forms.
-    Malformed,
+    Format {
+        budget: usize,
+    },
+    Mount {
+        budget: usize,
+    },
+    // So many bytes, all of one value.
+    Write {
+        file: usize,
+        position: usize,
+        count: usize,
+        byte: u8,
+    },
+    Truncate {
+        file: usize,
+        size: usize,
+    },
+    Sync {
+        file: usize,
+        budget: usize,
+    },
+    Read {
+        file: usize,
+        position: usize,
+        count: usize,
+    },
 }
+
+const GREATEST_LINE: usize = 40;
+
+const GREATEST_NUMBER: usize = 65535;
+
+const GREATEST_WRITE: usize = 4096;
+
+const GREATEST_READ: usize = 32;
+
+const GREATEST_BYTE: usize = 255;
 
 // ---- numbers
 
-// Whether all bytes are decimal digits.
-fn all_digits(text: &[u8]) -> bool
-    ensures { result ≡ every is_digit text.now }
+// The value of a field that is a number of at most the limit: 1 to 5 digits.
+fn number(text: &[u8], limit: usize) -> Option<usize>
+    ensures { result ≡ number limit text.now }
 {
-    let mut i = 0;
-    while i < text.len() {
-        if text[i] < b'0' {
-            return false;
+    if text.is_empty() || text.len() > 5 {
+        return None;
+    }
+    let mut value = 0;
+    for &byte in text {
+        if !byte.is_ascii_digit() {
+            return None;
         }
-        if text[i] > b'9' {
-            return false;
-        }
-        i += 1;
+        value = 10 * value + usize::from(byte - b'0');
     }
-    true
+    (value <= limit).then_some(value)
 }
 
-// The value of at most five digits.
-fn value(text: &[u8]) -> usize
-    requires { (length text.now ≤ 5) × (every is_digit text.now ≡ true) }
-    ensures { result ≡ value text.now }
+// The numbers of fields between commas, where there is one for each limit, and each is within its limit.
+fn numbers<const N: usize>(text: &[u8], limits: [usize; N]) -> Option<[usize; N]>
+    ensures { result ≡ numbers limits.entry (fields text.now) }
 {
-    let mut n = 0;
-    let mut i = 0;
-    while i < text.len() {
-        n = 10 * n + number::widen(text[i] - b'0');
-        i += 1;
+    let mut fields = text.split(|byte| *byte == b',');
+    let mut values = [0; N];
+    for (i, &limit) in limits.iter().enumerate() {
+        values[i] = number(fields.next()?, limit)?;
     }
-    n
-}
-
-// Whether a field is a number of at most the limit.
-fn is_number(text: &[u8], limit: usize) -> bool
-    ensures { result ≡ is_number limit text.now }
-{
-    if text.len() < 1 {
-        return false;
-    }
-    if text.len() > 5 {
-        return false;
-    }
-    if all_digits(text) {
-        return value(text) <= limit;
-    }
-    false
-}
-
-// ---- fields
-
-// The index of the first comma, or the length.
-fn first_comma(text: &[u8]) -> usize
-    ensures { result ≡ first_index is_comma text.now }
-{
-    let mut i = 0;
-    while i < text.len() {
-        if text[i] == b',' {
-            return i;
-        }
-        i += 1;
-    }
-    i
-}
-
-// The limits of a form, at most four; none where no form has this letter.
-#[derive(Clone, Copy)]
-struct Limits {
-    count: usize,
-    limits: [usize; 4],
-}
-
-fn limits_of(letter: u8) -> Limits
-    ensures { (take result.count result.limits ≡ limits_of letter) × (result.count ≤ 4) }
-{
-    if letter == b'F' {
-        return Limits {
-            count: 1,
-            limits: [65535, 0, 0, 0],
-        };
-    }
-    if letter == b'M' {
-        return Limits {
-            count: 1,
-            limits: [65535, 0, 0, 0],
-        };
-    }
-    if letter == b'W' {
-        return Limits {
-            count: 4,
-            limits: [65535, 65535, 4096, 255],
-        };
-    }
-    if letter == b'T' {
-        return Limits {
-            count: 2,
-            limits: [65535, 65535, 0, 0],
-        };
-    }
-    if letter == b'S' {
-        return Limits {
-            count: 2,
-            limits: [65535, 65535, 0, 0],
-        };
-    }
-    if letter == b'R' {
-        return Limits {
-            count: 3,
-            limits: [65535, 65535, 32, 0],
-        };
-    }
-    Limits {
-        count: 0,
-        limits: [0, 0, 0, 0],
-    }
-}
-
-// The numbers of a line, where all of its fields after the letter are numbers within the limits, one for each.
-#[derive(Clone, Copy)]
-struct Found {
-    fit: bool,
-    values: [usize; 4],
-}
-
-fn numbers(line: &[u8], limits: [usize; 4], count: usize) -> Found
-    requires { (1 ≤ length line.now) × (count ≤ 4) }
-    ensures { Values (take count limits) (rest_fields (drop 1 line.now)) result.fit result.values }
-{
-    let mut values = [0; 4];
-    let mut at = 1;
-    let mut i = 0;
-    while i < count {
-        if at == line.len() {
-            return Found { fit: false, values };
-        }
-        let from = at + 1;
-        let rest = &line[from..];
-        let n = first_comma(rest);
-        let text = &rest[..n];
-        if is_number(text, limits[i]) {
-            values[i] = value(text);
-            at = from + n;
-            i += 1;
-        } else {
-            return Found { fit: false, values };
-        }
-    }
-    Found {
-        fit: at == line.len(),
-        values,
-    }
+    fields.next().is_none().then_some(values)
 }
 
 // ---- requests
 
-// The request of a letter and its numbers.
-fn request_of(letter: u8, values: [usize; 4]) -> Request
-    requires { Fitting (limits_of letter) values }
-    ensures { (spelled result ≡ with_values letter (limits_of letter) values) × Within result }
-{
-    if letter == b'F' {
-        return Request::Format(values[0]);
-    }
-    if letter == b'M' {
-        return Request::Mount(values[0]);
-    }
-    if letter == b'W' {
-        return Request::Write(values[0], values[1], values[2], values[3] as u8);
-    }
-    if letter == b'T' {
-        return Request::Truncate(values[0], values[1]);
-    }
-    if letter == b'S' {
-        return Request::Sync(values[0], values[1]);
-    }
-    if letter == b'R' {
-        return Request::Read(values[0], values[1], values[2]);
-    }
-    Request::Malformed
-}
-
-// What a line, without its LF, asks for. A request to write or to read comes within the limits of its form.
-pub fn parse(line: &[u8]) -> Request
+// What a line, without its LF, asks for; none where it has none of the forms. A request to write or to read comes within the limits of its
+// form.
+pub fn parse(line: &[u8]) -> Option<Request>
     ensures { (spelled result ≡ parse line.now) × Within result }
 {
-    if line.len() > 40 {
-        return Request::Malformed;
+    if line.len() > GREATEST_LINE {
+        return None;
     }
-    if first_comma(line) == 1 {
-        let letter = line[0];
-        let form = limits_of(letter);
-        let limits = form.limits;
-        let count = form.count;
-        let found = numbers(line, limits, count);
-        if found.fit {
-            let values = found.values;
-            return request_of(letter, values);
+    let [letter, b',', rest @ ..] = line else {
+        return None;
+    };
+    match letter {
+        b'F' => {
+            let [budget] = numbers(rest, [GREATEST_NUMBER])?;
+            Some(Request::Format { budget })
         }
-        return Request::Malformed;
+        b'M' => {
+            let [budget] = numbers(rest, [GREATEST_NUMBER])?;
+            Some(Request::Mount { budget })
+        }
+        b'W' => {
+            let [file, position, count, byte] = numbers(
+                rest,
+                [
+                    GREATEST_NUMBER,
+                    GREATEST_NUMBER,
+                    GREATEST_WRITE,
+                    GREATEST_BYTE,
+                ],
+            )?;
+            Some(Request::Write {
+                file,
+                position,
+                count,
+                byte: byte as u8,
+            })
+        }
+        b'T' => {
+            let [file, size] = numbers(rest, [GREATEST_NUMBER, GREATEST_NUMBER])?;
+            Some(Request::Truncate { file, size })
+        }
+        b'S' => {
+            let [file, budget] = numbers(rest, [GREATEST_NUMBER, GREATEST_NUMBER])?;
+            Some(Request::Sync { file, budget })
+        }
+        b'R' => {
+            let [file, position, count] = numbers(
+                rest,
+                [GREATEST_NUMBER, GREATEST_NUMBER, GREATEST_READ],
+            )?;
+            Some(Request::Read {
+                file,
+                position,
+                count,
+            })
+        }
+        _ => None,
     }
-    Request::Malformed
 }
 
 // ---- the reply
 
-// The number of decimal digits of n.
-fn decimal_length(n: usize) -> usize
-    ensures { result ≡ length (decimal n) }
+// Lays bytes over the output from `at` on. The index after them comes back.
+fn put(output: &mut [u8], at: usize, bytes: &[u8]) -> usize
+    requires { at + length bytes.now ≤ length output.old }
+    ensures { (output.new ≡ overwrite output.old at bytes.now) × (result ≡ at + length bytes.now) }
 {
-    if n < 10 {
-        return 1;
-    }
-    decimal_length(n / 10) + 1
+    let end = at + bytes.len();
+    output[at..end].copy_from_slice(bytes);
+    end
 }
 
-// The decimal digits of n are laid over the output from `at` on. The index after them comes back.
-fn put_decimal(output: &mut [u8], at: usize, n: usize) -> usize
-    requires { at + length (decimal n) ≤ length output.old }
-    ensures { (output.new ≡ overwrite output.old at (decimal n)) × (result ≡ at + length (decimal n)) }
-{
-    if n < 10 {
-        output[at] = b'0' + n as u8;
-        return at + 1;
-    }
-    let end = put_decimal(output, at, n / 10);
-    output[end] = b'0' + (n % 10) as u8;
-    end + 1
-}
-
-fn hex_digit(d: u8) -> u8
-    requires { d < 16 }
-    ensures { result ≡ hex_digit d }
-{
-    if d < 10 { b'0' + d } else { b'a' + (d - 10) }
-}
-
-// The bytes in hexadecimal are laid over the output from `at` on.
-fn put_hex(output: &mut [u8], at: usize, bytes: &[u8])
+// The same of bytes in hexadecimal.
+fn put_hex(output: &mut [u8], at: usize, bytes: &[u8]) -> usize
     requires { at + 2 * length bytes.now ≤ length output.old }
-    ensures { output.new ≡ overwrite output.old at (hex bytes.now) }
+    ensures { (output.new ≡ overwrite output.old at (hex bytes.now)) × (result ≡ at + 2 * length bytes.now) }
 {
-    let mut i = 0;
-    while i < bytes.len() {
-        output[at + 2 * i] = hex_digit(bytes[i] / 16);
-        output[at + 2 * i + 1] = hex_digit(bytes[i] % 16);
-        i += 1;
-    }
+    let end = at + 2 * bytes.len();
+    let _ = hex::encode_to_slice(bytes, &mut output[at..end]);
+    end
 }
 
 // Prints the line of an answer at the front of the output, and answers how many bytes it has. SHAPE where it does not fit.
-pub fn print(answer: Answer, bytes: &[u8], output: &mut [u8]) -> Answer
+pub fn print(
+    answer: Result<usize, Refusal>,
+    bytes: &[u8],
+    output: &mut [u8],
+) -> Result<usize, Refusal>
     ensures { (coded result ≡ print_answer (reply_line (coded answer) bytes.now) output.old)
         × (output.new ≡ printed (reply_line (coded answer) bytes.now) output.old) }
 {
-    let number = answer::number(answer) as usize;
-    let count = answer::count(answer);
-    let room = number::saturating_sub(
-        output.len(),
-        decimal_length(number) + decimal_length(count) + 2,
-    );
-    if room < 1 {
-        return Answer::Refused(Refusal::Shape);
+    let mut number_text = Buffer::new();
+    let mut count_text = Buffer::new();
+    let number = number_text.format(answer::number(answer)).as_bytes();
+    let count = count_text.format(answer::count(answer)).as_bytes();
+    // All of the line but the bytes.
+    let frame = number.len() + count.len() + 3;
+    if output.len() < frame || (output.len() - frame) / 2 < bytes.len() {
+        return Err(Refusal::Shape);
     }
-    if (room - 1) / 2 < bytes.len() {
-        return Answer::Refused(Refusal::Shape);
-    }
-    let first = put_decimal(output, 0, number);
-    output[first] = b',';
-    let second = put_decimal(output, first + 1, count);
-    output[second] = b',';
-    put_hex(output, second + 1, bytes);
-    let end = second + 1 + 2 * bytes.len();
-    output[end] = b'\n';
-    Answer::Done(end + 1)
+    let end = put(output, 0, number);
+    let end = put(output, end, b",");
+    let end = put(output, end, count);
+    let end = put(output, end, b",");
+    let end = put_hex(output, end, bytes);
+    let end = put(output, end, b"\n");
+    Ok(end)
 }

@@ -11,7 +11,8 @@ use lib.Seq.{take-suc, take_all}
 use borrow.Author.Tests.{eq-eqb, ne_eqb, le-leb, lt-leb}
 use borrow.Rule.Slice.PartMut.{put_mid}
 use borrow.Table.Steps.{cases}
-use Rattle.answer.specs.declared.Answer.{Answer}
+use Rattle.answer.specs.declared.Refusal.{Refusal}
+use Rattle.std.specs.Prelude as std
 use Rattle.answer.specs.Coded.{coded, done, SHAPE}
 use Rattle.memory.specs.Bytes.{part, overwrite}
 use Rattle.memory.proofs.Bytes.{overwrite-none, overwrite-join, take-copied, put_copy}
@@ -113,7 +114,7 @@ module _ (P : ℕ) (input : List ℕ) (d₀ : Device) (p₀ : PartialLine) where
 -- ---- what a call on a block left
 
 -- where there is room, it is what the block gives: its text at the front of the output, and counted
-pub block-fed : (P : ℕ) (input : List ℕ) (d next : Device) (p q : PartialLine) (before out : List ℕ) (a : Answer)
+pub block-fed : (P : ℕ) (input : List ℕ) (d next : Device) (p q : PartialLine) (before out : List ℕ) (a : std.Result ℕ Refusal)
     → (give (coded a) (state_of next q out) ≡ feed_block P input (state_of d p before)) × ((coded a).count ≤ length before)
     → reply_bytes * length input ≤ length before → Stepped (length before) (feed P input d p) next q before out (coded a).count
 unfolding feed_block

@@ -1,15 +1,14 @@
 -- Laws for the parts of the code.
 use mathlib.Core.Path.{◌≡◌, refl, sym, ap, ◌∙◌}
-use mathlib.Core.Bool.{Bool, true, false, cond, false≢true}
-use mathlib.Core.List.{List, []}
+use mathlib.Core.List.{List, [], ◌++◌}
 use mathlib.Core.Logic.{⊎_elim}
 use Prim.Native.Nat.{ℕ, ◌^◌, ◌≤◌, ◌<◌, min}
 use native.Mathlib.Omega.{arith}
-use lib.ListN.{length, take, replicate, length-replicate, length-take}
-use lib.Seq.{take_all, take-take}
+use lib.ListN.{length, take, drop, replicate, length-replicate, length-take}
+use lib.Seq.{take_all, take-append-le}
 use borrow.Author.Tests.{eq-eqb, le-leb}
-use borrow.Table.Steps.{cases}
-use Rattle.answer.specs.declared.Answer.{Answer}
+use Rattle.answer.specs.declared.Refusal.{Refusal}
+use Rattle.std.specs.Prelude as std
 use Rattle.answer.specs.Coded.{Coded, coded, done}
 use Rattle.answer.proofs.Coded.{number_small}
 use Rattle.memory.specs.Bytes.{zeros, overwrite}
@@ -31,9 +30,12 @@ use Rattle.session_line.specs.Reply.{reply_line, print_answer, printed}
 use Rattle.text.proofs.Decimal.{length-small, decimal-length, decimal-fits}
 use Rattle.session_line.proofs.Reply.{reply-length}
 use Rattle.session_run.specs.declared.PartialLine.{PartialLine}
+use Rattle.session_run.specs.declared.Call.{Call}
+use Rattle.device.specs.declared.Outcome.{Outcome}
+use Rattle.std.specs.Prelude.{Option, None, Some, IfSome}
 use Rattle.session_run.specs.Session.{Ran, without_bytes, shown, reply_of, run, run_line}
 use Rattle.session_run.specs.Feeding.{kept_bytes, restarted, line_of, feed_byte, reply_bytes, run_into}
-use Rattle.session_run.specs.Steps.{read_buffer, write_buffer, Executed, Stepped}
+use Rattle.session_run.specs.Steps.{write_buffer, shown_bytes, Executed, Stepped}
 
 pub take-write_buffer : (n b : ℕ) → n ≤ greatest_write → take n (write_buffer b) ≡ replicate n b
 unfolding write_buffer
@@ -43,59 +45,49 @@ pub length-write_buffer : (b : ℕ) → length (write_buffer b) ≡ greatest_wri
 unfolding write_buffer
 length-write_buffer b = length-replicate greatest_write b
 
-pub take-buffer : (n : ℕ) → n ≤ greatest_read → take n read_buffer ≡ zeros n
-unfolding read_buffer
-take-buffer n h = take-replicate n greatest_read 0 h
-
-pub length-buffer : length read_buffer ≡ greatest_read
-unfolding read_buffer
-length-buffer = length-replicate {A = ℕ} greatest_read 0
-
 -- ---- the call of a line
 
-pub within_of : (r v : Request) → r ≡ v → Within r → Within v
+pub within_of : (r v : Option Request) → r ≡ v → Within r → Within v
 within_of r v e h = rw e at h
 
-module _ (request v : Request) (told : request ≡ v) (P : ℕ) (d : Device) (m : Media) (frames : List ℕ) (a : Answer) (reads : Bool) (bytes : List ℕ) (s : CacheState) where
+module _ (request v : Option Request) (told : request ≡ v) (P : ℕ) (m : Media) (frames : List ℕ) (s : CacheState) (outcome : Outcome) where
   -- a call that prints no bytes
-  pub executed_without_bytes : (x : Result Device) (b : Answer) (t : CacheState) → run P (spelled v) d ≡ without_bytes x → give (coded b) (device_of m frames t) ≡ x
-      → (a ≡ b) × (s ≡ t) × (reads ≡ false) → Executed (run P (spelled request) d) (coded a) reads bytes (device_of m frames s)
-  executed_without_bytes x b t er ex k =
-      record {
-        ran = rw (told, er, k.0, k.1, k.2) (ap without_bytes ex);
-        few = λ q. absurd (false≢true (sym k.2 ∙ q));
-      }
+  pub executed_plain : (d : Device) (call : Call) → call ≡ record { outcome = outcome; buffer = None } → (x : Result Device) → give (coded outcome.answer) (device_of m frames outcome.cache) ≡ x
+      → run P (spelled v) d ≡ without_bytes x → Executed (run P (spelled request) d) (coded call.outcome.answer) call.buffer (device_of m frames call.outcome.cache)
+  executed_plain d call e x given ran = rw (told, e, ran) (record { ran = ap without_bytes given; few = tt })
 
   -- a read
-  pub executed_read : (f position n : ℕ) → run P (spelled v) d ≡ shown d (read P f position (zeros n) d) → d ≡ device_of m frames s → n ≤ greatest_read
-      → give (coded a) (take n bytes) ≡ read P f position (zeros n) d → reads ≡ true → Executed (run P (spelled request) d) (coded a) reads bytes (device_of m frames s)
-  executed_read f position n er ed h ex k =
-      let e : (coded a).count ≡ (read P f position (zeros n) d).answer.count = ap (λ (r : Result (List ℕ)). r.answer.count) ex in
-      let c : (coded a).count ≤ n = omega (arith, e, read-counts P f position (zeros n) d, length-replicate {A = ℕ} n 0) in
-      record {
-        ran = rw (told, er, k, ← ed, ← ex) (ap (λ (l : List ℕ). record { answer = coded a; bytes = l; device = d }) (sym (take-take _ _ bytes c)));
-        few = λ q. omega (arith, c);
-      }
+  pub executed_read : (f position n : ℕ) (bytes : List ℕ) → outcome.cache ≡ s → n ≤ greatest_read
+      → give (coded outcome.answer) bytes ≡ read P f position (zeros n) (device_of m frames s) → length bytes ≡ n
+      → run P (spelled v) (device_of m frames s) ≡ shown (device_of m frames s) (read P f position (zeros n) (device_of m frames s))
+      → Executed (run P (spelled request) (device_of m frames s)) (coded outcome.answer) (Some (bytes ++ drop n (zeros greatest_read))) (device_of m frames outcome.cache)
+  executed_read f position n bytes same h given l ran =
+      let e : (coded outcome.answer).count ≡ (read P f position (zeros n) (device_of m frames s)).answer.count = ap (λ (r : Result (List ℕ)). r.answer.count) given in
+      let c : (coded outcome.answer).count ≤ n = omega (arith, e, read-counts P f position (zeros n) (device_of m frames s), length-replicate {A = ℕ} n 0) in
+      rw (told, ran, same, ← given)
+      (record {
+        ran = ap (λ (l : List ℕ). record { answer = coded outcome.answer; bytes = l; device = device_of m frames s }) (take-append-le (coded outcome.answer).count bytes (drop n (zeros greatest_read)) (omega (arith, c, l)));
+        few = omega (arith, c);
+      })
 
 -- ---- the line that is printed
 
-pub shown-few : (r : Ran) (a : Coded) (reads : Bool) (bytes : List ℕ) (d : Device) → Executed r a reads bytes d → cond reads a.count 0 ≤ greatest_read
-shown-few r a reads bytes d m = cases reads (λ e. rw e (m.few e)) (λ e. rw e (omega arith))
-
 -- no line is longer than `reply_bytes`
-pub text-fits : (r : Ran) (a : Answer) (reads : Bool) (bytes : List ℕ) (d : Device) → Executed r (coded a) reads bytes d → (coded a).count < 2 ^ 64
-    → length (reply_line (coded a) (take (cond reads (coded a).count 0) bytes)) ≤ reply_bytes
-text-fits r a reads bytes d m h =
+pub text-fits : (a : std.Result ℕ Refusal) (buffer : Option (List ℕ)) → IfSome buffer (λ _. (coded a).count ≤ greatest_read) → (coded a).count < 2 ^ 64
+    → length (reply_line (coded a) (shown_bytes (coded a).count buffer)) ≤ reply_bytes
+text-fits a None few h =
     ⊎_elim
-    (λ small. let n : length (decimal (coded a).number) ≡ 1 = length-small (coded a).number small in
-    cases reads
-    (λ e. let f : (coded a).count ≤ greatest_read = m.few e in
-    rw e (omega (arith, f, n, reply-length (coded a) (take (coded a).count bytes), decimal-length (coded a).count 2 (omega (arith, f)) (omega arith), length-take (coded a).count bytes)))
-    (λ e. rw e (omega (arith, n, reply-length (coded a) [], decimal-fits (coded a).count h))))
-    (λ two. let n : length (decimal (coded a).number) ≤ 2 = decimal-length (coded a).number 2 (omega (arith, two.0)) (omega arith) in
-    let k : length (decimal (coded a).count) ≡ 1 = length-small (coded a).count (omega (arith, two.1)) in
-    let none : cond reads (coded a).count 0 ≡ 0 = cases reads (λ e. rw e two.1) (λ e. rw e) in
-    rw none (omega (arith, n, k, reply-length (coded a) [])))
+    (λ small. omega (arith, length-small (coded a).number small, reply-length (coded a) [], decimal-fits (coded a).count h))
+    (λ two.
+    omega (arith, decimal-length (coded a).number 2 (omega (arith, two.0)) (omega arith), length-small (coded a).count (omega (arith, two.1)), reply-length (coded a) []))
+    (number_small a)
+text-fits a (Some buffer) few h =
+    let shown : length (take (coded a).count buffer) ≤ (coded a).count = omega (arith, length-take (coded a).count buffer) in
+    ⊎_elim
+    (λ small.
+    omega (arith, shown, length-small (coded a).number small, reply-length (coded a) (take (coded a).count buffer), decimal-length (coded a).count 2 (omega (arith, few)) (omega arith)))
+    (λ two.
+    omega (arith, shown, two.1, decimal-length (coded a).number 2 (omega (arith, two.0)) (omega arith), length-small (coded a).count (omega (arith, two.1)), reply-length (coded a) (take (coded a).count buffer)))
     (number_small a)
 
 -- and that of a read of so many bytes is as long
@@ -125,7 +117,7 @@ kept_line p n h e =
     (λ k. let a : n ≡ p.len = omega (arith, e) in ap (λ (j : ℕ). take j p.bytes) a)
 
 -- the line has ended, and was run
-pub stepped_end : (P : ℕ) (d : Device) (p : PartialLine) (line output left : List ℕ) (after : Device) (a : Answer) (n : ℕ)
+pub stepped_end : (P : ℕ) (d : Device) (p : PartialLine) (line output left : List ℕ) (after : Device) (a : std.Result ℕ Refusal) (n : ℕ)
     → line ≡ line_of p → length output ≡ reply_bytes → n ≡ (coded a).count
     → (give {A = Device × List ℕ} (coded a) (after, left) ≡ run_into P line (d, output)) × ((coded a).count ≤ reply_bytes)
     → Stepped reply_bytes (feed_byte P LF d p) after (restarted p) output left n

@@ -1,7 +1,7 @@
 -- What the parts of the code say.
-use Rattle.std.specs.Prelude.{◌≡◌, Bool, true, cond, List, ℕ, ◌≤◌, length, take, replicate}
+use Rattle.std.specs.Prelude.{◌≡◌, List, [], ℕ, ◌≤◌, length, take, replicate, Option, None, Some, IfSome}
 use Rattle.answer.specs.Coded.{Coded}
-use Rattle.memory.specs.Bytes.{zeros, overwrite}
+use Rattle.memory.specs.Bytes.{overwrite}
 use Rattle.device.specs.Device.{Device}
 use Rattle.session_line.specs.Grammar.{greatest_write, greatest_read}
 use Rattle.session_run.specs.declared.PartialLine.{PartialLine}
@@ -12,14 +12,15 @@ use Rattle.session_run.specs.Feeding.{Fed}
 unfoldable pub write_buffer : ℕ → List ℕ
 write_buffer byte = replicate greatest_write byte
 
--- as many zeros as a line may read
-unfoldable pub read_buffer : List ℕ
-read_buffer = zeros greatest_read
+-- the bytes that are printed of a call: of a read as many of its buffer as it counts
+abbrev pub shown_bytes : ℕ → Option (List ℕ) → List ℕ
+shown_bytes count None = []
+shown_bytes count (Some buffer) = take count buffer
 
--- a call was made: its answer, and the bytes to print if it is a read
-pub record Executed (r : Ran) (a : Coded) (reads : Bool) (bytes : List ℕ) (d : Device) : Type 0 where
-  pub ran : record { answer = a; bytes = take (cond reads a.count 0) bytes; device = d } ≡ r
-  pub few : reads ≡ true → a.count ≤ greatest_read
+-- a call was made: its answer, and the buffer if it is a read
+pub record Executed (r : Ran) (a : Coded) (buffer : Option (List ℕ)) (d : Device) : Type 0 where
+  pub ran : record { answer = a; bytes = shown_bytes a.count buffer; device = d } ≡ r
+  pub few : IfSome buffer (λ _. a.count ≤ greatest_read)
 
 -- input was taken: what it prints, no more than a bound, stands at the front of the output
 pub record Stepped (bound : ℕ) (x : Fed) (d : Device) (line : PartialLine) (before after : List ℕ) (n : ℕ) : Type 0 where

@@ -2,14 +2,17 @@
 use mathlib.Core.Path.{◌≡◌, refl, sym, ap, ◌∙◌}
 use mathlib.Core.List.{List, [], ◌∷◌, ◌++◌, append-nil, append_assoc}
 use Prim.Native.Nat.{ℕ, zero, suc, ◌+◌, ◌*◌, ◌≤◌, ◌<◌}
-use native.Mathlib.Nat.{not-suc-le-zero, le_of_suc-le-suc, mul-suc, mul-zero, zero-add, add_assoc, add_comm}
+use native.Mathlib.Nat.{not-suc-le-zero, le_of_suc-le-suc, mul-suc, mul-zero, zero-add, add-zero, add_comm}
 use native.Mathlib.Numerals.{add-one}
 use native.Mathlib.Omega.{arith}
-use lib.ListN.{length, get_or, take, drop, set, length-append, length-set, drop_of_length-le, get_or-append}
-use lib.Seq.{drop-cons, set-append_seam, get_or-append-add, get_or-append_seam, ext_get_or, take-add, drop-drop}
+use lib.ListN.{length, get_or, take, set, length-append, length-set, get_or-append}
+use lib.Seq.{get_or-append-add, get_or-append_seam, ext_get_or, take-add, drop-drop}
+use denote.Param.Members.{Mut, Called}
+use Rattle.std.specs.Array.{IsFromFnResultFrom, IsFromFnResult}
+use Rattle.std.specs.List.{flat_map}
 use Rattle.memory.specs.Bytes.{part, overwrite}
 use Rattle.memory.proofs.Cases.{split_lt}
-use Rattle.memory.proofs.Bytes.{overwrite-join_at, overwrite-whole, overwrite-first, overwrite_one}
+use Rattle.memory.proofs.Bytes.{overwrite-join_at, overwrite-whole, overwrite-first}
 use borrow.Author.Tests.{eq-eqb}
 use Rattle.media.specs.Geometry.{files}
 use Rattle.device.specs.declared.CacheState.{CacheState}
@@ -17,13 +20,6 @@ use Rattle.device.specs.Device.{slot_count}
 use Rattle.state_bytes.specs.Encoding.{state_bytes, slots_start, logical_start, floor_start, slot_bytes, number_bytes, concat_map, each, encode, encoded}
 
 -- ---- bytes one after the other
-
-module _ (xs : List ℕ) (i a b c : ℕ) where
-  pub laid-three : set (set (set xs i a) (i + 1) b) (i + 2) c ≡ overwrite xs i (a ∷ b ∷ c ∷ [])
-  laid-three = rw (overwrite-first, overwrite-first, overwrite_one, add_assoc)
-
-  pub laid_four : (d : ℕ) → set (set (set (set xs i a) (i + 1) b) (i + 2) c) (i + 3) d ≡ overwrite xs i (a ∷ b ∷ c ∷ d ∷ [])
-  laid_four d = rw (overwrite-first, overwrite-first, overwrite-first, overwrite_one, add_assoc, add_assoc)
 
 -- the up mark, then three runs of bytes: all that the buffer has
 pub laid-whole : (xs : List ℕ) (m : ℕ) (us vs ws : List ℕ) → length xs ≡ 137 → length us ≡ 72 → length vs ≡ 32 → length ws ≡ 32
@@ -96,20 +92,31 @@ module _ {A : Type 0} where
       let e : k ≡ n = omega arith in
       rw e (rw (length-each n g) at (get_or-append_seam (each n g) (g n) [] d)))
 
-  -- one more place of an array is filled
-  pub each_next : (g : ℕ → A) (b : List A) (i : ℕ) (d : A) → i < length b → set (each i g ++ drop i b) i (g i) ≡ each (i + 1) g ++ drop (i + 1) b
-  each_next g b i d h =
-      rw (add-one, drop-cons b i d h, append_assoc (each i g) (g i ∷ []) (drop (suc i) b))
-      (rw (length-each i g) at (set-append_seam (each i g) (get_or b i d) (drop (suc i) b) (g i)))
-
-  pub each_all : (g : ℕ → A) (b : List A) (n : ℕ) → length b ≤ n → each n g ++ drop n b ≡ each n g
-  each_all g b n h = rw (drop_of_length-le b h) (append-nil (each n g))
-
   -- a list whose elements these are
   pub each_is : (n : ℕ) (g : ℕ → A) (xs : List A) (d : A) → length xs ≡ n → ((k : ℕ) → k < n → g k ≡ get_or xs k d) → each n g ≡ xs
   each_is n g xs d e h =
       ext_get_or d (each n g) xs (length-each n g ∙ sym e)
       (λ k l. let m : k < n = rw (length-each n g) at l in get_or-each n g k d m ∙ h k m)
+
+  -- what calls at each number below n gave
+  module _ {F : Type 0} (g : Mut F (ℕ × Unit {0}) A) (f : F) (h : ℕ → A) (same : (k : ℕ) (y : A) (q : F) → Called g f (k, tt) y q → (q ≡ f) × (y ≡ h k)) where
+    called_from : (ys : List A) (i n : ℕ) → IsFromFnResultFrom g f ys i n → (k : ℕ) (d : A) → k < n → get_or ys (i + k) d ≡ h (i + k)
+    called_from ys i zero w k d l = absurd (not-suc-le-zero l)
+    called_from ys i (suc n) (q, y, e, w, ws) zero d l = rw add-zero (e.1 d ∙ (same i y q w).1)
+    called_from ys i (suc n) (q, y, e, w, ws) (suc k) d l =
+        let m : i + suc k ≡ i + 1 + k = omega arith in
+        rw m (called_from ys (i + 1) n (rw (same i y q w).0 at ws) k d (le_of_suc-le-suc l))
+
+    pub from_fn_each : (ys : List A) (n : ℕ) (d : A) → IsFromFnResult g f ys n → ys ≡ each n h
+    from_fn_each ys n d w = sym (each_is n h ys d w.long (λ k l. rw zero-add at (sym (called_from ys 0 n w.each k d l))))
+
+-- what a call at each element gave, one after the other
+pub flat-mapped : {A : Type 0} (g : A → List ℕ) (xs : List A) (ys : List (List ℕ)) → length ys ≡ length xs
+    → ((i : ℕ) (d : A) (e : List ℕ) → i < length xs → get_or ys i e ≡ g (get_or xs i d)) → flat_map (λ y. y) ys ≡ concat_map g xs
+flat-mapped g [] [] e h = refl
+flat-mapped g [] (y ∷ ys) e h = absurd (omega arith)
+flat-mapped g (x ∷ xs) [] e h = absurd (omega arith)
+flat-mapped g (x ∷ xs) (y ∷ ys) e h = rw (h 0 x y (omega arith), flat-mapped g xs ys (omega arith) (λ i d f k. h (suc i) d f (omega arith)))
 
 -- the bytes that stood where each element was read
 pub concat_map-each : {A : Type 0} (c : ℕ) (g : A → List ℕ) (f : ℕ → A) (bytes : List ℕ) (a n : ℕ)

@@ -1,16 +1,17 @@
 -- The bytes read and changed in place: what a slot and a size are, and that a change of the bytes of a state is one of the state.
 use mathlib.Core.Path.{◌≡◌, refl, sym, ap, ◌∙◌}
-use mathlib.Core.Bool.{true}
+use mathlib.Core.Bool.{true, cond, ◌&&◌}
 use mathlib.Core.Logic.{◌≢◌}
 use mathlib.Core.List.{List, [], ◌∷◌, ◌++◌, append-nil, append_assoc}
 use Prim.Native.Nat.{ℕ, zero, suc, ◌+◌, ◌*◌, ◌≤◌, ◌<◌}
 use native.Mathlib.Nat.{not-suc-le-zero, le_of_suc-le-suc, mul-suc, mul-zero, mul-le-mul_left, zero-add}
 use native.Mathlib.Omega.{arith}
 use lib.ListN.{length, get_or, set, replicate, length-append, length-set, length-replicate, get_or-eq_default}
+use lib.Dec.{eqb, ltb}
 use lib.Seq.{set_out}
 use borrow.Author.Tests.{eq-eqb, ne_eqb, lt-ltb, le-ltb}
 use Rattle.memory.specs.Bytes.{overwrite}
-use Rattle.memory.proofs.Bytes.{overwrite-none}
+use Rattle.memory.proofs.Bytes.{get_or-zeros, overwrite-none}
 use Rattle.memory.proofs.Cases.{split_lt, split_eq}
 use Rattle.media.specs.Geometry.{files}
 use Rattle.device.specs.declared.Slot.{Slot}
@@ -73,7 +74,10 @@ module _ (bytes : List ℕ) where
     unfolding decode sizes_in
     floor-read f h = rw (eq-eqb (length bytes) state_bytes e) (get_or-each files (λ n. number_in bytes (floor_start + 4 * n)) f 0 h)
 
-  -- past the last
+  -- past the last, and in bytes of another length
+  pub slot_other : length bytes ≢ state_bytes → (k : ℕ) → get_or (decode bytes).slots k free_slot ≡ free_slot
+  slot_other n k = rw (decode_other n) (none_at slot_count free_slot k)
+
   pub slot_past : (k : ℕ) → slot_count ≤ k → get_or (decode bytes).slots k free_slot ≡ free_slot
   slot_past k h = get_or-eq_default (decode bytes).slots free_slot (omega (arith, shaped.slots))
 
@@ -82,6 +86,24 @@ module _ (bytes : List ℕ) where
 
   pub floor_past : (f : ℕ) → files ≤ f → get_or (decode bytes).floor f 0 ≡ 0
   floor_past f h = get_or-eq_default (decode bytes).floor 0 (omega (arith, shaped.floor))
+
+  -- a size, by the two tests
+  size_tested : (xs : List ℕ) (a f : ℕ) → (length bytes ≡ state_bytes → f < files → get_or xs f 0 ≡ number_in bytes (a + 4 * f))
+      → (files ≤ f → get_or xs f 0 ≡ 0) → (length bytes ≢ state_bytes → get_or xs f 0 ≡ 0)
+      → cond (eqb (length bytes) state_bytes && ltb f files) (number_in bytes (a + 4 * f)) 0 ≡ get_or xs f 0
+  size_tested xs a f here past other =
+      split_eq (length bytes) state_bytes
+      (λ e. rw (eq-eqb (length bytes) state_bytes e)
+      (split_lt f files (λ h. rw (lt-ltb f files h) (sym (here e h))) (λ h. rw (le-ltb f files h) (sym (past h)))))
+      (λ n. rw (ne_eqb (length bytes) state_bytes n) (sym (other n)))
+
+  module _ (f : ℕ) where
+    pub logical_tested : cond (eqb (length bytes) state_bytes && ltb f files) (number_in bytes (logical_start + 4 * f)) 0 ≡ get_or (decode bytes).logical f 0
+    logical_tested =
+        size_tested (decode bytes).logical logical_start f (λ e. logical-read e f) (logical_past f) (λ n. rw (decode_other n) (get_or-zeros files f))
+
+    pub floor_tested : cond (eqb (length bytes) state_bytes && ltb f files) (number_in bytes (floor_start + 4 * f)) 0 ≡ get_or (decode bytes).floor f 0
+    floor_tested = size_tested (decode bytes).floor floor_start f (λ e. floor-read e f) (floor_past f) (λ n. rw (decode_other n) (get_or-zeros files f))
 
 -- ---- changed
 
@@ -165,6 +187,16 @@ module _ (s : CacheState) (h : Shaped s) where
       ∙ rw (append_assoc slot_run logical_run, append-nil)
 
 -- ---- changes of bytes
+
+-- element k becomes another where there is one
+module _ {A : Type 0} (g : A → List ℕ) (a c n : ℕ) (bytes : List ℕ) (k : ℕ) (x : A) (e : length bytes ≡ state_bytes) where
+  pub set_here : k < n → overwrite bytes (a + c * k) (g x) ≡ element_set g a c n bytes k x
+  unfolding element_set
+  set_here h = rw (eq-eqb (length bytes) state_bytes e, lt-ltb k n h)
+
+  pub set_past : n ≤ k → bytes ≡ element_set g a c n bytes k x
+  unfolding element_set
+  set_past h = rw (eq-eqb (length bytes) state_bytes e, le-ltb k n h)
 
 -- bytes of another length stay
 pub set_other : {A : Type 0} (g : A → List ℕ) (a c n : ℕ) (bytes : List ℕ) (k : ℕ) (x : A) → length bytes ≢ state_bytes → element_set g a c n bytes k x ≡ bytes

@@ -8,8 +8,8 @@ use lib.ListN.{length, take, length-set, length-map, length-replicate}
 use borrow.Table.Steps.{cases}
 use borrow.Author.Tests.{eq-eqb, eqb-true}
 use Rattle.answer.specs.declared.Refusal.{Refusal}
-use Rattle.answer.specs.declared.Answer.{Answer}
-use Rattle.answer.specs.declared.Answer.TheVariants.{Done, Refused}
+use Rattle.std.specs.Prelude.{Result as Outcome}
+use Rattle.std.specs.Prelude.{Ok, Err}
 use Rattle.answer.specs.Coded.{Coded, coded, done, SHAPE, coded_refusal}
 use Rattle.answer.specs.Admission.{Test, first_refusal, if_done}
 use Rattle.answer.proofs.Coded.{coded_of}
@@ -40,7 +40,7 @@ use Rattle.state_bytes.proofs.Inverse.{inverse, length-encode}
 -- ---- the tests, on the bytes and then on the device
 
 -- where an answer of the code is done, all of them hold
-pub shape-passed : (state : List ℕ) (ts : List Test) (a : Answer) (k : ℕ) → refusing ts ≡ true → coded a ≡ first_refusal (state_shape state ++ ts) (done 0) → a ≡ Done k
+pub shape-passed : (state : List ℕ) (ts : List Test) (a : Outcome ℕ Refusal) (k : ℕ) → refusing ts ≡ true → coded a ≡ first_refusal (state_shape state ++ ts) (done 0) → a ≡ Ok k
     → (length state ≡ state_bytes) × (passed ts ≡ true)
 unfolding state_shape
 shape-passed state ts a k h e q =
@@ -59,15 +59,15 @@ unfolding state_shape
 shape_too state ts e = cases (eqb (length state) state_bytes) (λ h. rw h e) (λ h. rw h)
 
 -- the calls on a file: what the answer of `admit` in the code says
-module _ (P : ℕ) (l : Borrowed) (f : ℕ) (range : Bool) (a : Answer) (e : coded a ≡ first_refusal (borrowed_tests P l f range) (done 0)) where
-  pub borrowed-passed : (k : ℕ) → a ≡ Done k → (length l.state ≡ state_bytes) × (passed (file_tests P (device_in l) f range) ≡ true)
+module _ (P : ℕ) (l : Borrowed) (f : ℕ) (range : Bool) (a : Outcome ℕ Refusal) (e : coded a ≡ first_refusal (borrowed_tests P l f range) (done 0)) where
+  pub borrowed-passed : (k : ℕ) → a ≡ Ok k → (length l.state ≡ state_bytes) × (passed (file_tests P (device_in l) f range) ≡ true)
   borrowed-passed k = shape-passed l.state (file_tests P (device_in l) f range) a k (file-refusing P (device_in l) f range) e
 
-  pub borrowed-ready : (k : ℕ) → a ≡ Done k → Admitted P (device_in l) f range
+  pub borrowed-ready : (k : ℕ) → a ≡ Ok k → Admitted P (device_in l) f range
   borrowed-ready k q = file_admitted P (device_in l) f range (borrowed-passed k q).1
 
-  pub borrowed-refused : (x : Refusal) → a ≡ Refused x → coded_refusal x ≡ first_refusal (borrowed_tests P l f range) (done 0)
-  borrowed-refused x q = coded_of a (Refused x) _ q e
+  pub borrowed-refused : (x : Refusal) → a ≡ Err x → coded_refusal x ≡ first_refusal (borrowed_tests P l f range) (done 0)
+  borrowed-refused x q = coded_of a (Err x) _ q e
 
 -- the first that fails is SHAPE of the state, or one of the others
 pub shape-refused : {A : Type 0} (state : List ℕ) (ts : List Test) (before : A) (r : Result A) (x : Refusal) → coded_refusal x ≡ first_refusal (state_shape state ++ ts) (done 0)

@@ -1,19 +1,22 @@
 -- Bytes that are 0: read as numbers, and as a part.
 use mathlib.Core.Path.{◌≡◌, refl, sym, ap, ◌∙◌}
-use mathlib.Core.Bool.{Bool, true, ◌&&◌, and-true}
+use mathlib.Core.Bool.{Bool, true, false, ◌&&◌, and-true, and-false}
+use mathlib.Core.Logic.{◌≢◌}
 use mathlib.Core.List.{List}
 use Prim.Native.Nat.{ℕ, zero, suc, ◌+◌, ◌*◌, ◌<◌, ◌≤◌}
 use native.Mathlib.Nat.{add_assoc, add-zero}
 use native.Mathlib.Omega.{arith}
 use lib.Dec.{eqb, leb}
+use lib.Bits.{bit_or}
 use lib.ListN.{length, get_or}
-use borrow.Author.Tests.{eq-eqb, ne_eqb, eqb-true, leb-true}
+use borrow.Author.Tests.{eq-eqb, ne_eqb, eqb-true, leb-true, le-leb, lt-leb}
 use borrow.Table.Steps.{cases}
 use Rattle.memory.specs.Bytes.{part}
 use Rattle.memory.proofs.Bytes.{length_part, get_d_part}
 use Rattle.memory.proofs.Cases.{split_eq}
 use Rattle.scan.specs.Scan.{every}
 use Rattle.scan.proofs.Scan.{and_left, and_right, and_assoc, is_false, true-not-false, every_below_at, every_below_all, every_at, every_all}
+use Rattle.scan.proofs.Zeros.{zero_or}
 use Rattle.device.specs.Device.{slot_count}
 use Rattle.state_bytes.specs.Encoding.{state_bytes, slots_start, number_in, zeros_from, slots_zero}
 
@@ -66,10 +69,12 @@ module _ (bytes : List ℕ) (a : ℕ) where
       ap (λ (i : ℕ). zeros_from bytes i 8) (sym (add-zero a)) ∙ zeros-number bytes a 0 8 ∙ ap (λ (m : ℕ). eqb m 0) (sym e)
 
 -- three words
-pub zeros-three : (bytes : List ℕ) (a : ℕ) → zeros_from bytes a 24 ≡ eqb (word bytes a) 0 && (eqb (word bytes (a + 8)) 0 && eqb (word bytes (a + 16)) 0)
+pub zeros-three : (bytes : List ℕ) (a : ℕ) → eqb (bit_or (bit_or (word bytes a) (word bytes (a + 8))) (word bytes (a + 16))) 0 ≡ zeros_from bytes a 24
 zeros-three bytes a =
-    zeros-join bytes a 8 16
-    ∙ rw (zeros-word bytes a, zeros-join bytes (a + 8) 8 8, zeros-word bytes (a + 8), add_assoc a 8 8, zeros-word bytes (a + 16))
+    sym
+    (zeros-join bytes a 8 16
+    ∙ rw (zeros-word bytes a, zeros-join bytes (a + 8) 8 8, zeros-word bytes (a + 8), add_assoc a 8 8, zeros-word bytes (a + 16), zero_or, zero_or)
+    (and_assoc (eqb (word bytes a) 0) (eqb (word bytes (a + 8)) 0) (eqb (word bytes (a + 16)) 0)))
 
 -- ---- a part, and slots
 
@@ -85,6 +90,20 @@ zeros-part bytes a n h =
     true-not-false (zeros_from bytes a n)
     (zeros_all bytes a n (λ i l. sym (get_d_part bytes a n i l) ∙ eqb-true _ _ (every_at zero (part bytes a n) 0 t i (omega arith)))) e)
     ∙ sym e)
+
+-- slots that are free, by the tests
+module _ (bytes : List ℕ) (k n : ℕ) where
+  pub slots_tested : length bytes ≡ state_bytes → k + n ≤ slot_count → zeros_from bytes (slots_start + 3 * k) (3 * n) ≡ slots_zero bytes k n
+  unfolding slots_zero
+  slots_tested e h = rw (eq-eqb (length bytes) state_bytes e, le-leb (k + n) slot_count h)
+
+  pub slots_short : slot_count < k + n → false ≡ slots_zero bytes k n
+  unfolding slots_zero
+  slots_short h = rw (lt-leb (k + n) slot_count h) (sym (and-false (eqb (length bytes) state_bytes)))
+
+  pub slots_other : length bytes ≢ state_bytes → false ≡ slots_zero bytes k n
+  unfolding slots_zero
+  slots_other e = rw (ne_eqb (length bytes) state_bytes e)
 
 -- what the test shows
 pub slots_zero_at : (bytes : List ℕ) (k n : ℕ) → slots_zero bytes k n ≡ true

@@ -4,14 +4,15 @@
 // of a state. What is read in place is what the decoded state has.
 #![tactic(auto)]
 
-ghost use Rattle.std.specs.Prelude.{◌≡◌, ◌+◌, ◌*◌, ◌≤◌, ◌<◌, length, get_or};
+ghost use Rattle.std.specs.Prelude.{◌≡◌, ◌+◌, ◌*◌, ◌≤◌, ◌<◌, ◌&&◌, cond, ltb, eqb, length, get_or};
 ghost use Rattle.memory.specs.Bytes.{overwrite};
 ghost use Rattle.media.specs.Geometry.{files};
 ghost use Rattle.device.specs.Device.{slot_count, free_slot};
 ghost use Rattle.state_bytes.specs.Encoding.{state_bytes, slots_start, logical_start, floor_start, slot_bytes, number_bytes, concat_map, encoded};
-ghost use Rattle.state_bytes.specs.Encoding.{slot_in, slot_word, number_in, slots_in, sizes_in, decode, slot_set, size_set, zeros_from, slots_zero};
+ghost use Rattle.state_bytes.specs.Encoding.{slot_in, slot_word, number_in, sizes_in, decode, slot_set, size_set, slots_zero};
 
 use device::{CacheState, Slot};
+use std::array;
 
 // The length of the buffer.
 pub const STATE_BYTES: usize = 137;
@@ -23,68 +24,63 @@ const LOGICAL_START: usize = 73;
 
 const FLOOR_START: usize = 105;
 
-fn put_slot(state: &mut [u8], at: usize, s: Slot)
-    requires { (length state.old ≡ state_bytes) × (at + 3 ≤ state_bytes) }
-    ensures { state.new ≡ overwrite state.old at (slot_bytes s) }
+type State = [u8; STATE_BYTES];
+
+// The bytes are laid over the state from an index on.
+fn put(state: &mut State, at: usize, bytes: &[u8])
+    requires { at + length bytes.now ≤ state_bytes }
+    ensures { state.new ≡ overwrite state.old at bytes.now }
 {
-    state[at] = s.used;
-    state[at + 1] = s.file;
-    state[at + 2] = s.page;
+    state[at..at + bytes.len()].copy_from_slice(bytes);
 }
 
-fn put_slots(state: &mut [u8], slots: [Slot; device::SLOTS])
-    requires { length state.old ≡ state_bytes }
-    ensures { state.new ≡ overwrite state.old slots_start (concat_map slot_bytes slots) }
+fn slot_bytes(s: Slot) -> [u8; 3]
+    ensures { result ≡ slot_bytes s }
 {
-    let mut k = 0;
-    while k < device::SLOTS {
-        put_slot(state, SLOTS_START + 3 * k, slots[k]);
-        k += 1;
+    [s.used, s.file, s.page]
+}
+
+// Slot by slot, since a map of the slots goes through all their bytes one at a time.
+fn put_slots(state: &mut State, slots: &[Slot; device::SLOTS])
+    ensures { state.new ≡ overwrite state.old slots_start (concat_map slot_bytes slots.now) }
+{
+    for k in 0..device::SLOTS {
+        put(state, SLOTS_START + 3 * k, &slot_bytes(slots[k]));
     }
 }
 
 // A number in four bytes, low byte first.
-fn put_number(state: &mut [u8], at: usize, n: u32)
-    requires { (length state.old ≡ state_bytes) × (at + 4 ≤ state_bytes) }
-    ensures { state.new ≡ overwrite state.old at (number_bytes n) }
+fn number_bytes(n: u32) -> [u8; 4]
+    ensures { result ≡ number_bytes n }
 {
-    state[at] = (n % 256) as u8;
-    state[at + 1] = (n / 256 % 256) as u8;
-    state[at + 2] = (n / 65536 % 256) as u8;
-    state[at + 3] = (n / 16777216) as u8;
-}
-
-fn put_sizes(state: &mut [u8], at: usize, sizes: [u32; media::FILES])
-    requires { (length state.old ≡ state_bytes) × (at + 4 * files ≤ state_bytes) }
-    ensures { state.new ≡ overwrite state.old at (concat_map number_bytes sizes) }
-{
-    let mut f = 0;
-    while f < media::FILES {
-        put_number(state, at + 4 * f, sizes[f]);
-        f += 1;
-    }
+    n.to_le_bytes()
 }
 
 // The buffer becomes the bytes of the state. One of another length stays as it is.
 pub fn encode(cache: CacheState, state: &mut [u8])
     ensures { state.new ≡ encoded cache state.old }
 {
-    if state.len() == STATE_BYTES {
-        let mounted = cache.mounted;
-        let slots = cache.slots;
-        let logical = cache.logical;
-        let floor = cache.floor;
-        state[0] = mounted;
-        put_slots(state, slots);
-        put_sizes(state, LOGICAL_START, logical);
-        put_sizes(state, FLOOR_START, floor);
+    if let Some(state) = state.as_mut_array::<STATE_BYTES>() {
+        state[0] = cache.mounted;
+        put_slots(state, &cache.slots);
+        put(
+            state,
+            LOGICAL_START,
+            cache.logical.map(number_bytes).as_flattened(),
+        );
+        put(
+            state,
+            FLOOR_START,
+            cache.floor.map(number_bytes).as_flattened(),
+        );
     }
 }
 
-fn slot_in(state: &[u8], at: usize) -> Slot
-    requires { at + 3 ≤ length state.now }
-    ensures { result ≡ slot_in state.now at }
+fn slot_in(state: &State, k: usize) -> Slot
+    requires { k < slot_count }
+    ensures { result ≡ slot_in state.now (slots_start + 3 * k) }
 {
+    let at = SLOTS_START + 3 * k;
     Slot {
         used: state[at],
         file: state[at + 1],
@@ -92,123 +88,88 @@ fn slot_in(state: &[u8], at: usize) -> Slot
     }
 }
 
-fn slots_in(state: &[u8]) -> [Slot; device::SLOTS]
-    requires { length state.now ≡ state_bytes }
-    ensures { result ≡ slots_in state.now }
-{
-    let mut slots = device::no_slots();
-    let mut k = 0;
-    while k < device::SLOTS {
-        slots[k] = slot_in(state, SLOTS_START + 3 * k);
-        k += 1;
-    }
-    slots
-}
-
-fn byte_in(state: &[u8], at: usize) -> u32
-    requires { at < length state.now }
-    ensures { (result ≡ get_or state.now at 0) × (result < 256) }
-{
-    state[at] as u32
-}
-
 // The number in four bytes, low byte first.
-fn number_in(state: &[u8], at: usize) -> u32
-    requires { at + 4 ≤ length state.now }
+fn number_in(state: &State, at: usize) -> u32
+    requires { at + 4 ≤ state_bytes }
     ensures { result ≡ number_in state.now at }
 {
-    let b0 = byte_in(state, at);
-    let b1 = byte_in(state, at + 1);
-    let b2 = byte_in(state, at + 2);
-    let b3 = byte_in(state, at + 3);
-    b0 + 256 * b1 + 65536 * b2 + 16777216 * b3
+    u32::from_le_bytes([state[at], state[at + 1], state[at + 2], state[at + 3]])
 }
 
-fn sizes_in(state: &[u8], at: usize) -> [u32; media::FILES]
-    requires { (length state.now ≡ state_bytes) × (at + 4 * files ≤ state_bytes) }
+fn sizes_in(state: &State, at: usize) -> [u32; media::FILES]
+    requires { at + 4 * files ≤ state_bytes }
     ensures { result ≡ sizes_in state.now at }
 {
-    let mut sizes = [0u32; media::FILES];
-    let mut f = 0;
-    while f < media::FILES {
-        sizes[f] = number_in(state, at + 4 * f);
-        f += 1;
-    }
-    sizes
+    array::from_fn(|f| number_in(state, at + 4 * f))
 }
 
 // The state that the bytes say. Bytes of another length say the down state.
 pub fn decode(state: &[u8]) -> CacheState
     ensures { result ≡ decode state.now }
 {
-    if state.len() == STATE_BYTES {
-        let mounted = state[0];
-        return CacheState {
-            mounted,
-            slots: slots_in(state),
-            logical: sizes_in(state, LOGICAL_START),
-            floor: sizes_in(state, FLOOR_START),
-        };
+    let Ok(state) = <&State>::try_from(state) else {
+        return device::down_state();
+    };
+    CacheState {
+        mounted: state[0],
+        slots: array::from_fn(|k| slot_in(state, k)),
+        logical: sizes_in(state, LOGICAL_START),
+        floor: sizes_in(state, FLOOR_START),
     }
-    device::down_state()
 }
 
 // Slot k; a free one where there is no such slot.
 pub fn slot_at(state: &[u8], k: usize) -> Slot
     ensures { result ≡ get_or (decode state.now).slots k free_slot }
 {
-    if state.len() == STATE_BYTES {
-        if k < device::SLOTS {
-            return slot_in(state, SLOTS_START + 3 * k);
-        }
-        return device::free_slot();
+    match <&State>::try_from(state) {
+        Ok(state) if k < device::SLOTS => slot_in(state, k),
+        _ => device::free_slot(),
     }
-    device::free_slot()
 }
 
 // Slot k as one number, the three low bytes of a word; 0 where there is no such slot.
 pub fn slot_word(state: &[u8], k: usize) -> u32
     ensures { result ≡ slot_word (get_or (decode state.now).slots k free_slot) }
 {
-    if state.len() == STATE_BYTES {
-        if k < device::SLOTS {
-            return number_in(state, SLOTS_START + 3 * k) % 16777216;
-        }
+    match <&State>::try_from(state) {
+        Ok(state) if k < device::SLOTS => number_in(state, SLOTS_START + 3 * k) % 16777216,
+        _ => 0,
     }
-    0
+}
+
+// The size of a file among those that begin at an index, or 0 where there is none.
+fn size_at(state: &[u8], at: usize, file: usize) -> u32
+    requires { at + 4 * files ≤ state_bytes }
+    ensures { result ≡ cond (eqb (length state.now) state_bytes && ltb file files) (number_in state.now (at + 4 * file)) 0 }
+{
+    match <&State>::try_from(state) {
+        Ok(state) if file < media::FILES => number_in(state, at + 4 * file),
+        _ => 0,
+    }
 }
 
 // The logical size of a file, or 0 where there is none.
 pub fn logical_at(state: &[u8], file: usize) -> u32
     ensures { result ≡ get_or (decode state.now).logical file 0 }
 {
-    if state.len() == STATE_BYTES {
-        if file < media::FILES {
-            return number_in(state, LOGICAL_START + 4 * file);
-        }
-    }
-    0
+    size_at(state, LOGICAL_START, file)
 }
 
 // The floor of a file, or 0 where there is none.
 pub fn floor_at(state: &[u8], file: usize) -> u32
     ensures { result ≡ get_or (decode state.now).floor file 0 }
 {
-    if state.len() == STATE_BYTES {
-        if file < media::FILES {
-            return number_in(state, FLOOR_START + 4 * file);
-        }
-    }
-    0
+    size_at(state, FLOOR_START, file)
 }
 
 // Slot k becomes another.
 pub fn set_slot(state: &mut [u8], k: usize, s: Slot)
     ensures { state.new ≡ slot_set state.old k s }
 {
-    if state.len() == STATE_BYTES {
+    if let Some(state) = state.as_mut_array::<STATE_BYTES>() {
         if k < device::SLOTS {
-            put_slot(state, SLOTS_START + 3 * k, s);
+            put(state, SLOTS_START + 3 * k, &slot_bytes(s));
         }
     }
 }
@@ -218,9 +179,9 @@ fn set_size(state: &mut [u8], at: usize, file: usize, n: u32)
     requires { at + 4 * files ≤ state_bytes }
     ensures { state.new ≡ size_set at state.old file n }
 {
-    if state.len() == STATE_BYTES {
+    if let Some(state) = state.as_mut_array::<STATE_BYTES>() {
         if file < media::FILES {
-            put_number(state, at + 4 * file, n);
+            put(state, at + 4 * file, &number_bytes(n));
         }
     }
 }
@@ -240,46 +201,30 @@ pub fn set_floor(state: &mut [u8], file: usize, n: u32)
 }
 
 // Eight bytes as one number, low byte first.
-fn word_in(state: &[u8], at: usize) -> u64
-    requires { at + 8 ≤ length state.now }
+fn word_in(state: &State, at: usize) -> u64
+    requires { at + 8 ≤ state_bytes }
     ensures { result ≡ number_in state.now at + 4294967296 * number_in state.now (at + 4) }
 {
-    let low = number_in(state, at) as u64;
-    let high = number_in(state, at + 4) as u64;
-    low + 4294967296 * high
-}
-
-// Whether the 24 bytes from `at` on are 0.
-fn three_words_zero(state: &[u8], at: usize) -> bool
-    requires { at + 24 ≤ length state.now }
-    ensures { result ≡ zeros_from state.now at 24 }
-{
-    if word_in(state, at) == 0 {
-        if word_in(state, at + 8) == 0 {
-            return word_in(state, at + 16) == 0;
-        }
-    }
-    false
+    u64::from_le_bytes(array::from_fn(|i| state[at + i]))
 }
 
 // Whether the bytes of eight slots from slot k on are 0: all of them are free. False where there are not as many.
+// By three words, since a scan of so few bytes takes twice the time.
 pub fn eight_free(state: &[u8], k: usize) -> bool
     ensures { result ≡ slots_zero state.now k 8 }
 {
-    if state.len() == STATE_BYTES {
-        if k <= device::SLOTS - 8 {
-            return three_words_zero(state, SLOTS_START + 3 * k);
+    match <&State>::try_from(state) {
+        Ok(state) if k <= device::SLOTS - 8 => {
+            let at = SLOTS_START + 3 * k;
+            word_in(state, at) | word_in(state, at + 8) | word_in(state, at + 16) == 0
         }
+        _ => false,
     }
-    false
 }
 
 // Whether the bytes of all slots are 0. False where the bytes are not those of a state.
 pub fn all_free(state: &[u8]) -> bool
     ensures { result ≡ slots_zero state.now 0 slot_count }
 {
-    if state.len() == STATE_BYTES {
-        return scan::all_zero(&state[SLOTS_START..LOGICAL_START]);
-    }
-    false
+    state.len() == STATE_BYTES && scan::all_zero(&state[SLOTS_START..LOGICAL_START])
 }

@@ -1,13 +1,12 @@
 -- What holds of the calls: the reader, the answers, the refusals, the cursor and the writer.
-use Rattle.std.proofs.Common.{◌≡◌, ℕ, zero, suc, ◌+◌, ◌<◌, ◌≤◌, true, false, eqb, ◌≢◌, ◌⊎◌, ◌↔◌, List, [], ◌∷◌, ◌++◌, map, length, get_or, take, drop, sym, refl, ap, ◌∙◌, inl, inr, ⊎_elim, append_assoc, append-nil, le_of_suc-le-suc, not-suc-le-zero, add-one, arith, length-append, length-drop, drop_of_length-le, drop-cons, drop-drop, take_at, drop_at, lt-ltb, eq-eqb, ne_eqb, le-leb}
+use Rattle.std.proofs.Common.{◌≡◌, ℕ, zero, suc, ◌+◌, ◌<◌, ◌≤◌, true, false, eqb, ◌≢◌, ◌⊎◌, ◌↔◌, List, [], ◌∷◌, ◌++◌, Option, Some, None, Result, Ok, Err, map, length, get_or, take, drop, sym, refl, ap, ap₂, ◌∙◌, inl, inr, ⊎_elim, append_assoc, append-nil, le_of_suc-le-suc, not-suc-le-zero, add-one, arith, length-append, length-drop, drop_of_length-le, drop-cons, drop-drop, take_at, drop_at, lt-ltb, eq-eqb, ne_eqb, le-leb}
 use mathlib.Core.Bool.{false≢true}
 use lib.ListN.{length-map}
 use lib.Seq.{drop-append_seam}
 use borrow.Author.Tests.{lt-leb}
 use borrow.Table.Steps.{cases}
-use Rattle.answer.specs.declared.Answer.{Answer}
-use Rattle.answer.specs.declared.Answer.TheVariants as answers
-use Rattle.answer.specs.Coded.{Coded, done, SHAPE, RANGE, TRIP_FORM, TRIP_ORDER}
+use Rattle.answer.specs.declared.Refusal.{Refusal}
+use Rattle.answer.specs.Coded.{Coded, done, coded_refusal, SHAPE, RANGE, TRIP_FORM, TRIP_ORDER}
 use Rattle.answer.proofs.Coded.{number-done, refusal-number, coded_injective}
 use Rattle.memory.specs.Bytes.{part}
 use Rattle.memory.proofs.Bytes.{overwrite-cut}
@@ -15,14 +14,12 @@ use Rattle.memory.proofs.Cases.{split_eq, split_lt}
 use Rattle.text.specs.Decimal.{value, decimal, leading_zeros}
 use Rattle.text.proofs.Decimal.{value-decimal, decimal_no_zeros}
 use Rattle.trip_list.specs.declared.Trip as code
-use Rattle.trip_list.specs.declared.Step.{Step}
-use Rattle.trip_list.specs.declared.Step.TheVariants as steps
+use Rattle.trip_list.specs.declared.Line as line
 use Rattle.trip_list.specs.declared.Lookup.{Lookup}
-use Rattle.trip_list.specs.declared.Lookup.TheVariants.{Found, None, Refused}
 use Rattle.trip_list.specs.Trip.{Trip, trip_of, spell, line_of}
 use Rattle.trip_list.specs.List.{Parsed, trips, refusal, before, parse_from, parse, trips_of, answer_of, list_answer, spelling, write_answer, written, valid_from, valid}
 use Rattle.trip_list.specs.Lines.{has_line, first_trip, line_length, driver_start, line_start}
-use Rattle.trip_list.specs.Lookup.{Located, located, Given, given, looked, read_trip, next_answer, next_trip}
+use Rattle.trip_list.specs.Lookup.{Located, located, Given, given, trip_or_none, looked, read_trip, next_answer, next_trip}
 use Rattle.trip_list.specs.Steps.{Told, told}
 use Rattle.trip_list.specs.Walk.{walk_of, onward, walk, whole_walk, walk_parsed}
 use Rattle.trip_list.specs.Entries.{Entry, lines_of, entries_from, entry_trip}
@@ -593,33 +590,35 @@ output-entries list buffer n e h =
 
 -- ---- what the code returns
 
--- two values of its enum with one meaning are one value
-pub looked_injective : (list : List ℕ) (a b : Lookup) → looked list a ≡ looked list b → a ≡ b
-looked_injective list (Found n t) (Found m u) e = ap (λ (g : Given). Found g.answer.count (trip_in g.trip)) e
-  where
-    trip_in : List Located → code.Trip
-    trip_in [] = t
-    trip_in (l ∷ ls) = record { minute = l.trip.minute; metres = l.trip.metres; driver = l.driver; letters = l.letters }
-looked_injective list (Found n t) (None m) e = absurd (omega (arith, ap (λ (g : Given). length g.trip) e))
-looked_injective list (Found n t) (Refused r) e = absurd (omega (arith, ap (λ (g : Given). length g.trip) e))
-looked_injective list (None n) (Found m u) e = absurd (omega (arith, ap (λ (g : Given). length g.trip) e))
-looked_injective list (None n) (None m) e = ap (λ (g : Given). None g.answer.count) e
-looked_injective list (None n) (Refused r) e = absurd (false≢true (sym (refusal-number r) ∙ ap (λ (g : Given). eqb g.answer.number 0) (sym e)))
-looked_injective list (Refused r) (Found m u) e = absurd (omega (arith, ap (λ (g : Given). length g.trip) e))
-looked_injective list (Refused r) (None m) e = absurd (false≢true (sym (refusal-number r) ∙ ap (λ (g : Given). eqb g.answer.number 0) e))
-looked_injective list (Refused r) (Refused q) e = ap back (coded_injective (answers.Refused r) (answers.Refused q) (ap (λ (g : Given). g.answer) e))
-  where
-    back : Answer → Lookup
-    back (answers.Done n) = None n
-    back (answers.Refused x) = Refused x
+trip_in : List Located → Option code.Trip
+trip_in [] = None
+trip_in (l ∷ ls) = Some (record { minute = l.trip.minute; metres = l.trip.metres; driver = l.driver; letters = l.letters })
+
+trip_in_lem : (list : List ℕ) (t : Option code.Trip) → trip_in (trip_or_none list t) ≡ t
+unfolding trip_in
+trip_in_lem list None = refl
+trip_in_lem list (Some t) = refl
+
+-- a count is no refusal
+done-refused : {A : Type 0} (r : Refusal) (n : ℕ) → done n ≡ coded_refusal r → A
+done-refused r n e = absurd (false≢true (sym (refusal-number r) ∙ ap (λ (a : Coded). eqb a.number 0) (sym e)))
+
+refusal_injective : (r q : Refusal) → coded_refusal r ≡ coded_refusal q → r ≡ q
+refusal_injective r q e = let f : ◌≡◌ {A = Result ℕ Refusal} (Err r) (Err q) = coded_injective (Err r) (Err q) e in cc
+
+-- two results of the code with one meaning are one result
+pub looked_injective : (list : List ℕ) (a b : Result Lookup Refusal) → looked list a ≡ looked list b → a ≡ b
+looked_injective list (Ok l) (Ok m) e =
+    let n : l.count ≡ m.count = ap (λ (g : Given). g.answer.count) e in
+    let t : l.trip ≡ m.trip = sym (trip_in_lem list l.trip) ∙ ap (λ (g : Given). trip_in g.trip) e ∙ trip_in_lem list m.trip in
+    ap₂ (λ (k : ℕ) (u : Option code.Trip). Ok (record { count = k; trip = u })) n t
+looked_injective list (Ok l) (Err r) e = done-refused r l.count (ap (λ (g : Given). g.answer) e)
+looked_injective list (Err r) (Ok m) e = done-refused r m.count (ap (λ (g : Given). g.answer) (sym e))
+looked_injective list (Err r) (Err q) e = ap Err (refusal_injective r q (ap (λ (g : Given). g.answer) e))
 
 -- two steps that tell the same are one, so that a contract that gives `told r` gives r
-pub told_injective : (a b : Step) → told a ≡ told b → a ≡ b
-told_injective (steps.At l) (steps.At m) e = ap (λ (g : Told). steps.At (get_or g.line 0 l)) e
-told_injective (steps.At l) (steps.Refused r) e = absurd (omega (arith, ap (λ (g : Told). length g.line) e))
-told_injective (steps.Refused r) (steps.At m) e = absurd (omega (arith, ap (λ (g : Told). length g.line) e))
-told_injective (steps.Refused r) (steps.Refused q) e = ap back (coded_injective (answers.Refused r) (answers.Refused q) (ap (λ (g : Told). g.answer) e))
-  where
-    back : Answer → Step
-    back (answers.Done n) = steps.Refused r
-    back (answers.Refused x) = steps.Refused x
+pub told_injective : (a b : Result line.Line Refusal) → told a ≡ told b → a ≡ b
+told_injective (Ok l) (Ok m) e = ap (λ (g : Told). Ok (get_or g.line 0 l)) e
+told_injective (Ok l) (Err r) e = absurd (omega (arith, ap (λ (g : Told). length g.line) e))
+told_injective (Err r) (Ok m) e = absurd (omega (arith, ap (λ (g : Told). length g.line) e))
+told_injective (Err r) (Err q) e = ap Err (refusal_injective r q (ap (λ (g : Told). g.answer) e))

@@ -1,16 +1,19 @@
 -- Laws of the runs of bytes in front of a text: a number with its comma, its leading zeros, a driver with its LF.
-use Rattle.std.proofs.Common.{◌≡◌, ℕ, ◌+◌, ◌-◌, ◌*◌, ◌%◌, ◌^◌, ◌<◌, ◌≤◌, min, Bool, true, false, ◌&&◌, eqb, ltb, leb, List, length, get_or, take, sym, refl, ap, ◌∙◌, lt_of_lt_of_le, add-one, arith, take-suc, take-take, ltb-false, ltb-true, le-leb, leb-true}
-use mathlib.Core.Bool.{false≢true}
+use Rattle.std.proofs.Common.{◌≡◌, ℕ, suc, ◌+◌, ◌-◌, ◌*◌, ◌^◌, ◌<◌, ◌≤◌, min, Bool, true, false, ◌&&◌, eqb, ltb, leb, not, cond, List, Option, Some, None, position, length, get_or, take, drop, sym, refl, ap, ◌∙◌, lt_of_lt_of_le, add-one, arith, length-drop, take-suc, take-take, ltb-false, ltb-true, le-leb}
 use native.Mathlib.Nat.{pow-succ', pow-le-pow_right}
 use lib.ListN.{get_or-eq_default}
 use borrow.Author.Tests.{lt-leb}
 use borrow.Table.Steps.{cases}
 use Rattle.memory.proofs.Bytes.{length_front}
-use Rattle.scan.specs.Scan.{every}
+use Rattle.std.specs.Bool.{then_some}
+use Rattle.std.specs.List.{position_or_len}
+use Rattle.std.proofs.lemmas.List.Recursion.{is_position_or_len}
+use Rattle.scan.specs.Scan.{first_index, every}
 use Rattle.scan.proofs.Scan.{every_take}
+use Rattle.text.specs.Ascii.{is_capital_or_digit}
 use Rattle.text.specs.Decimal.{is_digit, is_zero, value, is_numeral}
 use Rattle.text.specs.Marks.{LF, comma}
-use Rattle.text.proofs.Decimal.{digit_bounds, is_digit_lem, not_digit_below, not_digit_above, value-join, value-small, ZerosTo, zeros-before}
+use Rattle.text.proofs.Decimal.{digit_bounds, value-join, value-small, ZerosTo, zeros-before}
 use Rattle.words.specs.Words.{eight_or_none, first_eight}
 use Rattle.trip_list.specs.Trip.{greatest_number, is_driver_byte, is_number, is_driver}
 use Rattle.text.specs.Runs.{run, front}
@@ -18,8 +21,8 @@ use Rattle.text.proofs.Runs.{length_run, front-every, first-few, first-within, f
 use Rattle.trip_list.specs.Scanner.{number_field, driver_field, Reading, NumberRead, DriverRead}
 
 -- no such field
-pub nothing_read : {is_there : Bool} {facts : Type 0} → false ≡ is_there → Reading false is_there facts
-nothing_read e = record { told = e; read = λ h. absurd (false≢true h) }
+pub nothing_read : {A : Type 0} {is_there : Bool} {Facts : A → Type 0} → false ≡ is_there → Reading None is_there Facts
+nothing_read e = record { told = e; read = tt }
 
 -- ---- a number and the comma after it
 
@@ -97,8 +100,10 @@ module _ (s : List ℕ) (i n : ℕ) (d : Digits s i n) where
           rw (l, front-every is_digit s, le-leb _ _ d.few, ← digits_value, ← digits-run)
           (sym (regroup (leb 1 i) (leb n greatest_number) (eqb (get_or s i 0) comma)))
 
-      pub digits-read : (told : Bool) → told ≡ leb 1 i && (leb n greatest_number && eqb (get_or s i 0) comma) → NumberRead s told n i
-      digits-read told a = record { told = a ∙ digits_ended; read = λ _. (digits_value, digits-run) }
+      pub digits-read : (told : Bool) → told ≡ leb 1 i && (leb n greatest_number && eqb (get_or s i 0) comma)
+          → NumberRead s (then_some told (record { value = n; digits = i }))
+      digits-read true a = record { told = a ∙ digits_ended; read = (digits_value, digits-run) }
+      digits-read false a = nothing_read (a ∙ digits_ended)
 
 -- ---- zeros before the last digit, among the first eight bytes
 
@@ -111,66 +116,62 @@ zeros-first s digits z i e f h l =
 
 -- ---- a driver and the LF after it
 
-module _ (s : List ℕ) (i : ℕ) (p : Passed is_driver_byte s i) where
-  pub letters_end : length s ≤ i → false ≡ driver_field s
-  unfolding driver_field
-  letters_end h =
-      let r = passed_end is_driver_byte s i p h in
-      and_none (is_driver (front is_driver_byte s)) (eqb (get_or s (run is_driver_byte s) 0) LF) (rw (r, get_or-eq_default s 0 {n = i} h))
+-- the first byte that fails a test, after i bytes that pass
+run_after : (t : ℕ → Bool) (s : List ℕ) (i : ℕ) → Passed t s i → run t s ≡ i + position_or_len (λ c. not (t c)) (drop i s)
+unfolding run
+run_after t s i p =
+    let fails : ℕ → Bool = λ c. not (t c) in
+    p.so_far ∙ ap (λ (k : ℕ). i + k) (is_position_or_len (first_index fails) fails refl (λ x xs. same (fails x) (first_index fails xs)) (drop i s))
+  where
+    same : (b : Bool) (n : ℕ) → cond b 0 (suc n) ≡ cond b 0 (1 + n)
+    same true n = refl
+    same false n = omega arith
 
-  module _ (h : i < length s) (e : is_driver_byte (get_or s i 0) ≡ false) where
-    letters-run : run is_driver_byte s ≡ i
-    letters-run = passed_here is_driver_byte s i p h e
+regroup_driver : (a b c : Bool) → (a && (b && (true && true))) && c ≡ a && (b && c)
+regroup_driver true true c = refl
+regroup_driver true false c = refl
+regroup_driver false b c = refl
 
-    letters-length : length (front is_driver_byte s) ≡ i
-    letters-length = length_run is_driver_byte s ∙ letters-run
+-- an index below a limit, or none
+index_some : (n m k : ℕ) → cond (ltb n m) (Some n) None ≡ Some k → (n ≡ k) × (n < m)
+index_some n m k e = cases (ltb n m) (λ b. let f : Some n ≡ Some k = rw b at e in (cc, ltb-true n m b)) (λ b. let f : None ≡ Some k = rw b at e in cc)
 
-    pub letters-none : i < 1 → false ≡ driver_field s
-    unfolding driver_field is_driver
-    letters-none k = rw (letters-length, lt-leb 1 i k)
+index_none : (n m : ℕ) → ◌≡◌ {A = Option ℕ} (cond (ltb n m) (Some n) None) None → m ≤ n
+index_none n m e = cases (ltb n m) (λ b. let f : Some n ≡ None = rw b at e in cc) (λ b. ltb-false n m b)
 
-    pub letters_many : 16 < i → false ≡ driver_field s
-    unfolding driver_field is_driver
-    letters_many k = let f : 1 ≤ i = omega arith in rw (letters-length, le-leb 1 i f, lt-leb i 16 k)
+module _ (s : List ℕ) (i : ℕ) (e : i ≡ run is_capital_or_digit (first_eight s)) where
+  pub letters-within : i ≤ length s
+  unfolding first_eight
+  letters-within = omega (arith, e, first-within is_capital_or_digit (eight_or_none s) s)
 
-    pub letters-read : 1 ≤ i → i ≤ 16 → DriverRead s (eqb (get_or s i 0) LF) i
-    unfolding driver_field is_driver
-    letters-read f k = record {
-      told = rw (letters-length, le-leb 1 i f, le-leb i 16 k, front-every is_driver_byte s, letters-run);
-      read = λ _. sym letters-run;
-    }
+  passed : Passed is_driver_byte s i
+  unfolding is_driver_byte first_eight
+  passed = rw e (passed_first is_capital_or_digit (eight_or_none s) s)
 
--- ---- bytes, by differences that wrap at 256
+  -- those from the next byte on
+  module _ (rest : List ℕ) (w : rest ≡ drop i s) where
+    abbrev others : ℕ
+    others = position_or_len (λ c. not (is_driver_byte c)) rest
 
--- a digit, and its value
-pub digit_found : (c d : ℕ) → (d + 48) % 2 ^ 8 ≡ c → d ≤ 9 → (is_digit c ≡ true) × (d ≡ c - 48)
-digit_found c d e h = let q : c ≡ d + 48 = omega arith in (is_digit_lem c (omega arith) (omega arith), omega arith)
+    letters_run : run is_driver_byte s ≡ i + others
+    letters_run = run_after is_driver_byte s i passed ∙ ap (λ (xs : List ℕ). i + position_or_len (λ c. not (is_driver_byte c)) xs) (sym w)
 
-pub no_digit-found : (c d : ℕ) → c < 256 → (d + 48) % 2 ^ 8 ≡ c → d < 256 → 9 < d → is_digit c ≡ false
-no_digit-found c d k e l h =
-    cases (ltb c 48)
-    (λ q. not_digit_below c (ltb-true c 48 q))
-    (λ q. let f = ltb-false c 48 q in not_digit_above c (omega arith))
+    pub no_driver-end : position (λ c. not (is_driver_byte c)) rest ≡ None → DriverRead s None
+    unfolding driver_field
+    no_driver-end h =
+        let r : length s ≤ run is_driver_byte s = omega (arith, index_none others (length rest) h, letters_run, ap length w ∙ length-drop i s) in
+        nothing_read (and_none (is_driver (front is_driver_byte s)) (eqb (get_or s (run is_driver_byte s) 0) LF) (rw (get_or-eq_default s 0 {n = run is_driver_byte s} r)))
 
--- a letter; or a digit exactly where the second difference is below 10
-pub a_letter : (c d : ℕ) → (d + 65) % 2 ^ 8 ≡ c → d < 26 → true ≡ is_driver_byte c
-unfolding is_driver_byte
-a_letter c d e h =
-    let f : 65 ≤ c = omega arith in
-    let g : c ≤ 90 = omega arith in
-    let k : 57 < c = omega arith in
-    rw (not_digit_above c k, le-leb 65 c f, le-leb c 90 g)
+    module _ (k : ℕ) (h : position (λ c. not (is_driver_byte c)) rest ≡ Some k) where
+      driver-run : run is_driver_byte s ≡ i + k
+      driver-run = omega (arith, letters_run, (index_some others (length rest) k h).0)
 
-pub no_letter : (c d n : ℕ) → (d + 65) % 2 ^ 8 ≡ c → (n + 48) % 2 ^ 8 ≡ c → 26 ≤ d → (d < 256) × (n < 256) → ltb n 10 ≡ is_driver_byte c
-unfolding is_driver_byte
-no_letter c d n e f h w =
-    cases (ltb n 10)
-    (λ q.
-    let l = ltb-true n 10 q in
-    rw (q, is_digit_lem c (omega arith) (omega arith)))
-    (λ q.
-    let l = ltb-false n 10 q in
-    let k : is_digit c ≡ false = no_digit-found c n (omega arith) f w.1 (omega arith) in
-    cases (leb 65 c)
-    (λ a. let b = leb-true 65 c a in let z : 90 < c = omega arith in rw (q, k, a, lt-leb c 90 z))
-    (λ a. rw (q, k, a)))
+      driver_ended : leb 1 (i + k) && (leb (i + k) 16 && eqb (get_or s (i + k) 0) LF) ≡ driver_field s
+      unfolding driver_field is_driver
+      driver_ended =
+          let l : length (front is_driver_byte s) ≡ i + k = length_run is_driver_byte s ∙ driver-run in
+          rw (l, front-every is_driver_byte s, driver-run) (sym (regroup_driver (leb 1 (i + k)) (leb (i + k) 16) (eqb (get_or s (i + k) 0) LF)))
+
+      pub driver-read : (told : Bool) → told ≡ leb 1 (i + k) && (leb (i + k) 16 && eqb (get_or s (i + k) 0) LF) → DriverRead s (then_some told (i + k))
+      driver-read true a = record { told = a ∙ driver_ended; read = sym driver-run }
+      driver-read false a = nothing_read (a ∙ driver_ended)

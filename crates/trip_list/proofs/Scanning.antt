@@ -1,12 +1,15 @@
 -- What the code finds of a line, field after field.
-use Rattle.std.proofs.Common.{◌≡◌, ℕ, suc, ◌+◌, ◌-◌, ◌<◌, ◌≤◌, Bool, true, false, eqb, List, [], ◌∷◌, ◌++◌, length, get_or, drop, sym, refl, ap, ◌∙◌, arith, length-drop, drop-drop, eqb-true}
+use Rattle.std.proofs.Common.{◌≡◌, ℕ, suc, ◌+◌, ◌-◌, ◌<◌, ◌≤◌, Bool, true, false, eqb, List, [], ◌∷◌, ◌++◌, Some, None, length, get_or, drop, sym, refl, ap, ◌∙◌, arith, length-drop, drop-drop, eqb-true}
 use mathlib.Core.Bool.{false≢true}
 use lib.Seq.{get_or-append_seam}
+use Rattle.memory.specs.Bytes.{part}
+use Rattle.memory.proofs.Bytes.{rest-whole}
 use Rattle.scan.proofs.Scan.{and_left, and_right, is_false}
 use Rattle.text.specs.Decimal.{is_digit, value}
 use Rattle.text.specs.Marks.{LF, comma, fields}
 use Rattle.text.specs.Runs.{run, front}
 use Rattle.text.proofs.Runs.{run_join, front-join, mark_within, front-split, length_run}
+use Rattle.trip_list.specs.declared.Number as number
 use Rattle.trip_list.specs.Trip.{Trip, trip, is_driver_byte, is_number, is_driver, field, line_of}
 use Rattle.trip_list.specs.Lines.{first_line, has_line, first_trip, line_length, driver_start}
 use Rattle.trip_list.specs.Scanner.{field_before, number_field, driver_field, NumberRead, DriverRead, LineRead}
@@ -57,135 +60,144 @@ driver-split s e = field-split 9 is_driver_byte is_driver s e
 -- ---- a line
 
 -- a line would have had the field
-no_line_lem : (s : List ℕ) (b is_field : Bool) → (Texts s → is_field ≡ true) → b ≡ is_field → b ≡ false → false ≡ has_line s
-no_line_lem s b is_field has told e = sym (is_false (has_line s) (λ h. false≢true (sym e ∙ told ∙ has (texts s h))))
+no_line_lem : (s : List ℕ) (is_field : Bool) → (Texts s → is_field ≡ true) → false ≡ is_field → false ≡ has_line s
+no_line_lem s is_field has e = sym (is_false (has_line s) (λ h. false≢true (e ∙ has (texts s h))))
 
-module _ (s : List ℕ) (b : Bool) (v i : ℕ) (r : NumberRead s b v i) where
-  pub no_minute_lem : b ≡ false → false ≡ has_line s
-  no_minute_lem = no_line_lem s b (number_field s) (λ t. ap number_field t.whole ∙ number_field_lem (minute_of s) _ t.three.minute) r.told
+module _ (s : List ℕ) where
+  pub no_minute_lem : NumberRead s None → false ≡ has_line s
+  no_minute_lem r = no_line_lem s (number_field s) (λ t. ap number_field t.whole ∙ number_field_lem (minute_of s) _ t.three.minute) r.told
 
-  module _ (e : b ≡ true) where
+  module _ (minute : number.Number) (r : NumberRead s (Some minute)) where
     first : Split is_digit is_number comma s
-    first = number-split s (sym r.told ∙ e)
+    first = number-split s (sym r.told)
 
-    digits : i ≡ run is_digit s
-    digits = (r.read e).1
+    digits : minute.digits ≡ run is_digit s
+    digits = r.read.1
 
-    pub second-within : i + 1 ≤ length s
+    pub second-within : minute.digits + 1 ≤ length s
     second-within = omega (arith, first.within, digits)
 
-    module _ (u : List ℕ) (w : u ≡ drop (i + 1) s) where
-      -- the rest of a line that has the form
-      after-minute : (t : Texts s) → u ≡ metres_of s ++ (comma ∷ driver_of s ++ (LF ∷ drop (line_length s) s))
-      after-minute t =
-          let n : run is_digit s ≡ length (minute_of s) = ap (run is_digit) t.whole ∙ number-run (minute_of s) _ t.three.minute in
-          w
-          ∙ ap (λ (k : ℕ). drop (k + 1) s) (digits ∙ n)
-          ∙ ap (drop (length (minute_of s) + 1)) t.whole
-          ∙ after_mark (minute_of s) comma _
+    -- the bytes after the minute
+    abbrev u : List ℕ
+    u = part s (minute.digits + 1) (length s - (minute.digits + 1))
 
-      module _ (g : Bool) (k j : ℕ) (q : NumberRead u g k j) where
-        pub no_metres : g ≡ false → false ≡ has_line s
-        no_metres = no_line_lem s g (number_field u) (λ t. ap number_field (after-minute t) ∙ number_field_lem (metres_of s) _ t.three.metres) q.told
+    w : u ≡ drop (minute.digits + 1) s
+    w = rest-whole (minute.digits + 1) s
 
-        module _ (f : g ≡ true) where
-          second : Split is_digit is_number comma u
-          second = number-split u (sym q.told ∙ f)
+    -- the rest of a line that has the form
+    after-minute : (t : Texts s) → u ≡ metres_of s ++ (comma ∷ driver_of s ++ (LF ∷ drop (line_length s) s))
+    after-minute t =
+        let n : run is_digit s ≡ length (minute_of s) = ap (run is_digit) t.whole ∙ number-run (minute_of s) _ t.three.minute in
+        w
+        ∙ ap (λ (k : ℕ). drop (k + 1) s) (digits ∙ n)
+        ∙ ap (drop (length (minute_of s) + 1)) t.whole
+        ∙ after_mark (minute_of s) comma _
 
-          digits2 : j ≡ run is_digit u
-          digits2 = (q.read f).1
+    pub no_metres : NumberRead u None → false ≡ has_line s
+    no_metres q = no_line_lem s (number_field u) (λ t. ap number_field (after-minute t) ∙ number_field_lem (metres_of s) _ t.three.metres) q.told
 
-          length_rest : length u ≡ length s - (i + 1)
-          length_rest = ap length w ∙ length-drop (i + 1) s
+    module _ (metres : number.Number) (q : NumberRead u (Some metres)) where
+      second : Split is_digit is_number comma u
+      second = number-split u (sym q.told)
 
-          pub third_within : i + 1 + j + 1 ≤ length s
-          third_within = omega (arith, second.within, digits2, length_rest, second-within)
+      digits2 : metres.digits ≡ run is_digit u
+      digits2 = q.read.1
 
-          module _ (x : List ℕ) (y : x ≡ drop (i + 1 + j + 1) s) where
-            rest_at : drop (j + 1) u ≡ x
-            rest_at =
-                let n : i + 1 + (j + 1) ≡ i + 1 + j + 1 = omega arith in
-                ap (drop (j + 1)) w ∙ drop-drop (j + 1) (i + 1) s ∙ ap (λ (k : ℕ). drop k s) n ∙ sym y
+      length_rest : length u ≡ length s - (minute.digits + 1)
+      length_rest = ap length w ∙ length-drop (minute.digits + 1) s
 
-            after-metres : (t : Texts s) → x ≡ driver_of s ++ (LF ∷ drop (line_length s) s)
-            after-metres t =
-                let a = after-minute t in
-                let n : run is_digit u ≡ length (metres_of s) = ap (run is_digit) a ∙ number-run (metres_of s) _ t.three.metres in
-                sym rest_at
-                ∙ ap (λ (k : ℕ). drop (k + 1) u) (digits2 ∙ n)
-                ∙ ap (drop (length (metres_of s) + 1)) a
-                ∙ after_mark (metres_of s) comma _
+      pub third_within : minute.digits + 1 + metres.digits + 1 ≤ length s
+      third_within = omega (arith, second.within, digits2, length_rest, second-within)
 
-            module _ (h : Bool) (n : ℕ) (p : DriverRead x h n) where
-              pub no_driver : h ≡ false → false ≡ has_line s
-              no_driver = no_line_lem s h (driver_field x) (λ t. ap driver_field (after-metres t) ∙ driver_field_lem (driver_of s) _ t.three.driver) p.told
+      -- and those after the metres
+      abbrev x : List ℕ
+      x = part s (minute.digits + 1 + metres.digits + 1) (length s - (minute.digits + 1 + metres.digits + 1))
 
-              module _ (o : h ≡ true) where
-                third : Split is_driver_byte is_driver LF x
-                third = driver-split x (sym p.told ∙ o)
+      y : x ≡ drop (minute.digits + 1 + metres.digits + 1) s
+      y = rest-whole (minute.digits + 1 + metres.digits + 1) s
 
-                letters : n ≡ run is_driver_byte x
-                letters = p.read o
+      rest_at : drop (metres.digits + 1) u ≡ x
+      rest_at =
+          let n : minute.digits + 1 + (metres.digits + 1) ≡ minute.digits + 1 + metres.digits + 1 = omega arith in
+          ap (drop (metres.digits + 1)) w ∙ drop-drop (metres.digits + 1) (minute.digits + 1) s ∙ ap (λ (k : ℕ). drop k s) n ∙ sym y
 
-                pub end_within : i + 1 + j + 1 + n + 1 ≤ length s
-                end_within = omega (arith, third.within, letters, ap length y ∙ length-drop (i + 1 + j + 1) s, third_within)
+      after-metres : (t : Texts s) → x ≡ driver_of s ++ (LF ∷ drop (line_length s) s)
+      after-metres t =
+          let a = after-minute t in
+          let n : run is_digit u ≡ length (metres_of s) = ap (run is_digit) a ∙ number-run (metres_of s) _ t.three.metres in
+          sym rest_at
+          ∙ ap (λ (k : ℕ). drop (k + 1) u) (digits2 ∙ n)
+          ∙ ap (drop (length (metres_of s) + 1)) a
+          ∙ after_mark (metres_of s) comma _
 
-                abbrev M : List ℕ
-                M = front is_digit s
+      pub no_driver : DriverRead x None → false ≡ has_line s
+      no_driver p = no_line_lem s (driver_field x) (λ t. ap driver_field (after-metres t) ∙ driver_field_lem (driver_of s) _ t.three.driver) p.told
 
-                abbrev K : List ℕ
-                K = front is_digit u
+      module _ (n : ℕ) (p : DriverRead x (Some n)) where
+        third : Split is_driver_byte is_driver LF x
+        third = driver-split x (sym p.told)
 
-                abbrev D : List ℕ
-                D = front is_driver_byte x
+        letters : n ≡ run is_driver_byte x
+        letters = p.read
 
-                three : Three M K D
-                three = record { minute = first.text; metres = second.text; driver = third.text }
+        pub end_within : minute.digits + 1 + metres.digits + 1 + n + 1 ≤ length s
+        end_within = omega (arith, third.within, letters, ap length y ∙ length-drop (minute.digits + 1 + metres.digits + 1) s, third_within)
 
-                abbrev R : List ℕ
-                R = drop (run is_driver_byte x + 1) x
+        abbrev M : List ℕ
+        M = front is_digit s
 
-                whole : s ≡ line_of M K D R
-                whole =
-                    first.whole
-                    ∙ ap (λ (l : List ℕ). M ++ (comma ∷ l))
-                    (ap (λ (k : ℕ). drop (k + 1) s) (sym digits) ∙ sym w ∙ second.whole
-                    ∙ ap (λ (l : List ℕ). K ++ (comma ∷ l)) (ap (λ (k : ℕ). drop (k + 1) u) (sym digits2) ∙ rest_at ∙ third.whole))
+        abbrev K : List ℕ
+        K = front is_digit u
 
-                found : first_trip s ≡ trip (value M) (value K) D
-                found = ap first_trip whole ∙ line-trip M K D R three
+        abbrev D : List ℕ
+        D = front is_driver_byte x
 
-                found-fields : fields (first_line s) ≡ M ∷ K ∷ D ∷ []
-                found-fields = ap (λ (l : List ℕ). fields (first_line l)) whole ∙ line-fields M K D R three
+        three : Three M K D
+        three = record { minute = first.text; metres = second.text; driver = third.text }
 
-                found-length : line_length s ≡ length M + length K + length D + 3
-                found-length = ap line_length whole ∙ line_length_lem M K D R three
+        abbrev R : List ℕ
+        R = drop (run is_driver_byte x + 1) x
 
-                found-driver : driver_start s ≡ length M + 1 + (length K + 1)
-                found-driver = ap driver_start whole ∙ line-driver M K D R three
+        whole : s ≡ line_of M K D R
+        whole =
+            first.whole
+            ∙ ap (λ (l : List ℕ). M ++ (comma ∷ l))
+            (ap (λ (k : ℕ). drop (k + 1) s) (sym digits) ∙ sym w ∙ second.whole
+            ∙ ap (λ (l : List ℕ). K ++ (comma ∷ l)) (ap (λ (k : ℕ). drop (k + 1) u) (sym digits2) ∙ rest_at ∙ third.whole))
 
-                pub line-found : LineRead s (record {
-                  fits = true;
-                  minute = v;
-                  metres = k;
-                  second = i + 1;
-                  driver = i + 1 + j + 1;
-                  letters = n;
-                  length = i + 1 + j + 1 + n + 1;
-                })
-                line-found =
-                    let lm : length M ≡ i = length_run is_digit s ∙ sym digits in
-                    let lk : length K ≡ j = length_run is_digit u ∙ sym digits2 in
-                    let ld : length D ≡ n = length_run is_driver_byte x ∙ sym letters in
-                    let f0 : field 0 (first_line s) ≡ M = ap (λ (ts : List (List ℕ)). get_or ts 0 []) found-fields in
-                    record {
-                      told = sym (ap has_line whole ∙ line_has M K D R three);
-                      read = λ _. record {
-                        minute = (r.read e).0 ∙ sym (ap (λ (t : Trip). t.minute) found);
-                        metres = (q.read f).0 ∙ sym (ap (λ (t : Trip). t.metres) found);
-                        second = omega (arith, ap length f0, lm);
-                        driver = omega (arith, found-driver, lm, lk);
-                        letters = sym (ap (λ (t : Trip). length t.driver) found ∙ ld);
-                        size = omega (arith, found-length, lm, lk, ld);
-                      };
-                    }
+        found : first_trip s ≡ trip (value M) (value K) D
+        found = ap first_trip whole ∙ line-trip M K D R three
+
+        found-fields : fields (first_line s) ≡ M ∷ K ∷ D ∷ []
+        found-fields = ap (λ (l : List ℕ). fields (first_line l)) whole ∙ line-fields M K D R three
+
+        found-length : line_length s ≡ length M + length K + length D + 3
+        found-length = ap line_length whole ∙ line_length_lem M K D R three
+
+        found-driver : driver_start s ≡ length M + 1 + (length K + 1)
+        found-driver = ap driver_start whole ∙ line-driver M K D R three
+
+        pub line-found : LineRead s (Some (record {
+          minute = minute.value;
+          metres = metres.value;
+          second = minute.digits + 1;
+          driver = minute.digits + 1 + metres.digits + 1;
+          letters = n;
+          length = minute.digits + 1 + metres.digits + 1 + n + 1;
+        }))
+        line-found =
+            let lm : length M ≡ minute.digits = length_run is_digit s ∙ sym digits in
+            let lk : length K ≡ metres.digits = length_run is_digit u ∙ sym digits2 in
+            let ld : length D ≡ n = length_run is_driver_byte x ∙ sym letters in
+            let f0 : field 0 (first_line s) ≡ M = ap (λ (ts : List (List ℕ)). get_or ts 0 []) found-fields in
+            record {
+              told = sym (ap has_line whole ∙ line_has M K D R three);
+              read = record {
+                minute = r.read.0 ∙ sym (ap (λ (t : Trip). t.minute) found);
+                metres = q.read.0 ∙ sym (ap (λ (t : Trip). t.metres) found);
+                second = omega (arith, ap length f0, lm);
+                driver = omega (arith, found-driver, lm, lk);
+                letters = sym (ap (λ (t : Trip). length t.driver) found ∙ ld);
+                size = omega (arith, found-length, lm, lk, ld);
+              };
+            }

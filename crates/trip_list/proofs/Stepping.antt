@@ -1,13 +1,14 @@
 -- A line at an index of a list: what the code is told of it.
-use Rattle.std.proofs.Common.{◌≡◌, ℕ, ◌+◌, ◌<◌, ◌≤◌, true, false, leb, List, length, get_or, drop, sym, refl, ap, ◌∙◌, arith, length-drop, drop_of_length-le, le-leb, leb-false, leb-true}
+use Rattle.std.proofs.Common.{◌≡◌, ℕ, ◌+◌, ◌<◌, ◌≤◌, true, false, leb, List, Bor, Option, Some, None, MatchOption, ⊎_elim, Result, Ok, Err, length, get_or, drop, sym, refl, ap, ◌∙◌, arith, length-drop, drop_of_length-le, le-leb, leb-false, leb-true}
 use borrow.Author.Tests.{lt-leb}
 use borrow.Table.Steps.{cases}
 use Rattle.answer.specs.Coded.{coded_refusal}
 use Rattle.answer.specs.declared.Refusal.{Refusal}
 use Rattle.answer.specs.declared.Refusal.TheVariants.{TripForm, TripOrder}
+use Rattle.std.specs.Slice.{IsGetRangeResult}
+use Rattle.memory.proofs.Bytes.{rest-whole}
+use Rattle.trip_list.proofs.Runs.{nothing_read}
 use Rattle.trip_list.specs.declared.Line as line
-use Rattle.trip_list.specs.declared.Step.{Step}
-use Rattle.trip_list.specs.declared.Step.TheVariants.{At, Refused}
 use Rattle.trip_list.specs.Trip.{greatest_number, trip_of}
 use Rattle.trip_list.specs.Lines.{first_line, has_line, first_trip, line_length, driver_start}
 use Rattle.trip_list.specs.Steps.{Told, told, line_of_front, line_given}
@@ -18,52 +19,49 @@ use Rattle.trip_list.proofs.Spelling.{parts-length, line-short}
 
 -- ---- the line that was found
 
+-- what is found in the rest of a list, or in no bytes where the index is past its end
+pub line_from : (list : List ℕ) (at : ℕ) (rest : Option (Bor (List ℕ))) (r : Option line.Line) → IsGetRangeResult list at (length list) rest
+    → MatchOption rest (r ≡ None) (λ x. LineRead x.now r) → LineRead (drop at list) r
+unfolding has_line first_line
+line_from list at None r g e =
+    let over : length list ≤ at = ⊎_elim (λ h. omega arith) (λ h. omega arith) g.0 in
+    rw (e, drop_of_length-le list over) (nothing_read refl)
+line_from list at (Some x) r g e = rw (← rest-whole at list, ← g.0.2) e
+
 module _ (list : List ℕ) (at least : ℕ) where
   abbrev t : List ℕ
   t = drop at list
 
-  is_line : has_line t ≡ true → leb least (first_trip t).minute ≡ true → line_given list at least ≡ told (At (line_of_front t))
+  is_line : has_line t ≡ true → leb least (first_trip t).minute ≡ true → line_given list at least ≡ told (Ok (line_of_front t))
   unfolding line_given line_of_front
   is_line f h = rw (f, h)
 
-  is_low : has_line t ≡ true → leb least (first_trip t).minute ≡ false → line_given list at least ≡ told (Refused TripOrder)
+  is_low : has_line t ≡ true → leb least (first_trip t).minute ≡ false → line_given list at least ≡ told (Err TripOrder)
   unfolding line_given
   is_low f h = rw (f, h)
 
-  is_none : has_line t ≡ false → line_given list at least ≡ told (Refused TripForm)
+  is_none : has_line t ≡ false → line_given list at least ≡ told (Err TripForm)
   unfolding line_given
   is_none f = rw f
 
-  -- no line starts past the end
-  pub given_past : length list < at → told (Refused TripForm) ≡ line_given list at least
-  unfolding has_line first_line
-  given_past h = let over : length list ≤ at = omega arith in sym (is_none (rw (drop_of_length-le list over)))
+  -- to the code: each case of the line there
+  pub given-none : LineRead t None → told (Err TripForm) ≡ line_given list at least
+  given-none r = sym (is_none (sym r.told))
 
-  -- to the code: each case of the line in front
-  module _ (u : List ℕ) (w : u ≡ drop at list) (l : line.Line) (r : LineRead u l) where
-    here : LineRead t l
-    here = rw w at r
+  module _ (l : line.Line) (r : LineRead t (Some l)) where
+    pub given-low : l.minute < least → told (Err TripOrder) ≡ line_given list at least
+    given-low h =
+        let below : (first_trip t).minute < least = omega (arith, r.read.minute) in
+        sym (is_low (sym r.told) (lt-leb _ _ below))
 
-    pub given-none : l.fits ≡ false → told (Refused TripForm) ≡ line_given list at least
-    given-none e = sym (is_none (sym here.told ∙ e))
+    front_is : l ≡ line_of_front t
+    unfolding line_of_front
+    front_is = let f = r.read in rw (← f.minute, ← f.metres, ← f.second, ← f.driver, ← f.letters, ← f.size)
 
-    module _ (e : l.fits ≡ true) where
-      form : has_line t ≡ true
-      form = sym here.told ∙ e
-
-      pub given-low : l.minute < least → told (Refused TripOrder) ≡ line_given list at least
-      given-low h =
-          let below : (first_trip t).minute < least = omega (arith, (here.read e).minute) in
-          sym (is_low form (lt-leb _ _ below))
-
-      front_is : l ≡ line_of_front t
-      unfolding line_of_front
-      front_is = let f = here.read e in rw (← f.minute, ← f.metres, ← f.second, ← f.driver, ← f.letters, ← f.size, ← e)
-
-      pub given-line : least ≤ l.minute → told (At l) ≡ line_given list at least
-      given-line h =
-          let up : least ≤ (first_trip t).minute = omega (arith, (here.read e).minute) in
-          ap (λ (m : line.Line). told (At m)) front_is ∙ sym (is_line form (le-leb _ _ up))
+    pub given-line : least ≤ l.minute → told (Ok l) ≡ line_given list at least
+    given-line h =
+        let up : least ≤ (first_trip t).minute = omega (arith, r.read.minute) in
+        ap (λ (m : line.Line). told (Ok m)) front_is ∙ sym (is_line (sym r.told) (le-leb _ _ up))
 
   -- from the code: what each case says
   front_read : LineFields t (line_of_front t)
@@ -71,13 +69,13 @@ module _ (list : List ℕ) (at least : ℕ) where
   front_read = record { minute = refl; metres = refl; second = refl; driver = refl; letters = refl; size = refl }
 
   -- one line is not none
-  line-none : {A : Type 0} (l : line.Line) (x : Refusal) → told (At l) ≡ told (Refused x) → A
+  line-none : {A : Type 0} (l : line.Line) (x : Refusal) → told (Ok l) ≡ told (Err x) → A
   line-none l x e = let z : ◌≡◌ {A = ℕ} 1 0 = ap (λ (g : Told). length g.line) e in absurd (omega arith)
 
-  module _ (r : Step) (e : told r ≡ line_given list at least) where
-    pub step_line : (l : line.Line) → r ≡ At l → LineAt list at l × (least ≤ l.minute)
+  module _ (r : Result line.Line Refusal) (e : told r ≡ line_given list at least) where
+    pub step_line : (l : line.Line) → r ≡ Ok l → LineAt list at l × (least ≤ l.minute)
     step_line l q =
-        let g : told (At l) ≡ line_given list at least = ap told (sym q) ∙ e in
+        let g : told (Ok l) ≡ line_given list at least = ap told (sym q) ∙ e in
         cases (has_line t)
         (λ f. cases (leb least (first_trip t).minute)
         (λ h.
@@ -87,9 +85,9 @@ module _ (list : List ℕ) (at least : ℕ) where
         (λ h. line-none l TripOrder (g ∙ is_low f h)))
         (λ f. line-none l TripForm (g ∙ is_none f))
 
-    pub step-refused : at < length list → (x : Refusal) → r ≡ Refused x → Stopped least t (coded_refusal x)
+    pub step-refused : at < length list → (x : Refusal) → r ≡ Err x → Stopped least t (coded_refusal x)
     step-refused inside x q =
-        let g : told (Refused x) ≡ line_given list at least = ap told (sym q) ∙ e in
+        let g : told (Err x) ≡ line_given list at least = ap told (sym q) ∙ e in
         let some : 0 < length t = omega (arith, length-drop at list) in
         cases (has_line t)
         (λ f. cases (leb least (first_trip t).minute)

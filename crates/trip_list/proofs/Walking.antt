@@ -1,32 +1,28 @@
 -- A walk over a list, line after line: what the code's loops have shown so far, and what they give at the end.
-use Rattle.std.proofs.Common.{◌≡◌, ℕ, zero, suc, ◌+◌, ◌<◌, ◌≤◌, true, cond, eqb, ltb, leb, ◌≢◌, List, [], ◌∷◌, ◌++◌, length, take, drop, sym, refl, ap, ◌∙◌, append_assoc, le_of_suc-le-suc, not-suc-le-zero, add-one, arith, length-append, length-drop, drop_of_length-le, drop-drop, take_at, le-ltb, lt-ltb, eq-eqb, ne_eqb, le-leb, leb-false, leb-true}
+use Rattle.std.proofs.Common.{◌≡◌, ℕ, zero, suc, ◌+◌, ◌<◌, ◌≤◌, Bool, true, cond, eqb, ltb, leb, ◌≢◌, List, Option, Some, None, [], ◌∷◌, ◌++◌, length, take, drop, sym, refl, ap, ◌∙◌, append_assoc, le_of_suc-le-suc, not-suc-le-zero, add-one, arith, length-append, length-drop, drop_of_length-le, drop-drop, take_at, le-ltb, lt-ltb, eq-eqb, ne_eqb, le-leb, leb-false, leb-true}
 use mathlib.Core.Bool.{false≢true}
 use lib.Seq.{drop-append-add}
 use borrow.Author.Tests.{lt-leb}
 use borrow.Table.Steps.{cases}
-use Rattle.answer.specs.declared.Answer.{Answer}
-use Rattle.answer.specs.declared.Answer.TheVariants as answers
 use Rattle.answer.specs.declared.Refusal.{Refusal}
-use Rattle.answer.specs.Coded.{Coded, coded, done, coded_refusal, SHAPE, RANGE}
+use Rattle.answer.specs.declared.Refusal.TheVariants.{Range}
+use Rattle.answer.specs.Coded.{Coded, done, coded_refusal, SHAPE, RANGE}
 use Rattle.answer.specs.Admission.{first_refusal, if_done}
 use Rattle.answer.proofs.Coded.{refusal-number}
 use Rattle.memory.specs.Bytes.{part}
-use Rattle.memory.proofs.Cases.{split_eq}
+use Rattle.memory.proofs.Cases.{split_lt}
 use Rattle.text.specs.Marks.{LF, comma}
 use Rattle.trip_list.specs.declared.Trip as code
 use Rattle.trip_list.specs.declared.Line as line
 use Rattle.trip_list.specs.Trip.{Trip, spell_trip, spell, trip_of}
 use Rattle.trip_list.specs.List.{Parsed, trips, refusal, before, parse_from, parse, trips_of, greatest_list, answer_of, list_answer, spelling, write_answer, written}
 use Rattle.trip_list.specs.Lines.{has_line, first_trip, line_length, driver_start, line_start}
-use Rattle.trip_list.specs.Lookup.{located, given, in_list, read_trip, line_tests, next_answer, next_trip}
-use Rattle.trip_list.specs.Scanner.{LineAt, Stopped, trip_at, Surveyed}
+use Rattle.trip_list.specs.Lookup.{located, given, in_list, trip_or_none, read_trip, line_tests, next_answer, next_trip}
+use Rattle.trip_list.specs.Scanner.{LineAt, Stopped, trip_at}
 use Rattle.trip_list.proofs.Lines.{minute_of, metres_of, driver_of, texts, line-driver}
 use Rattle.trip_list.proofs.Claims.{never_longer}
-use Rattle.trip_list.proofs.Parsing.{Accepted, line_some, line-within, from_end, from_next, parsed-first, accepted_trips, list-parsed, list-range, list_count}
+use Rattle.trip_list.proofs.Parsing.{Accepted, accepted, line_some, line-within, from_end, from_next, parsed-first, accepted_trips, list-parsed, list-range, list_count}
 use Rattle.trip_list.proofs.Stepping.{line-inside}
-
-pub refused-done : {A : Type 0} (r : Refusal) (n : ℕ) → coded_refusal r ≡ done n → A
-refused-done r n e = absurd (false≢true (sym (refusal-number r) ∙ ap (λ (a : Coded). eqb a.number 0) e))
 
 -- ---- trips before those of the rest
 
@@ -124,15 +120,24 @@ module _ (list : List ℕ) (at least count : ℕ) (w : Walked list at least coun
 
 -- ---- the trip at a place
 
-abbrev pub Held : List ℕ → ℕ → ℕ → code.Trip → Type 0
-Held list place count t = place < count → t ≡ trip_at list (line_start place list)
+-- held where its place is among the lines so far
+abbrev pub Held : List ℕ → ℕ → ℕ → Option code.Trip → Type 0
+Held list place count t = t ≡ cond (ltb place count) (Some (trip_at list (line_start place list))) None
 
-pub held_next : (list : List ℕ) (place count at : ℕ) (t : code.Trip) → Held list place count t → line_start count list ≡ at
-    → Held list place (count + 1) (cond (eqb count place) (trip_at list at) t)
-held_next list place count at t h q below =
-    split_eq count place
-    (λ e. rw (eq-eqb count place e) (ap (trip_at list) (sym q ∙ ap (λ (k : ℕ). line_start k list) e)))
-    (λ n. rw (ne_eqb count place n) (h (omega arith)))
+pub held_start : (list : List ℕ) (place : ℕ) → Held list place 0 None
+held_start list place = let h : 0 ≤ place = omega arith in rw (le-ltb place 0 h)
+
+module _ (list : List ℕ) (place count at : ℕ) (starts : line_start count list ≡ at) where
+  pub held_here : count ≡ place → Held list place (count + 1) (Some (trip_at list at))
+  held_here e =
+      let h : place < count + 1 = omega arith in
+      rw (lt-ltb place (count + 1) h) (ap (λ (k : ℕ). Some (trip_at list k)) (sym starts ∙ ap (λ (k : ℕ). line_start k list) e))
+
+  pub held_next : (t : Option code.Trip) → Held list place count t → count ≢ place → Held list place (count + 1) t
+  held_next t h n = h ∙ ap (λ (b : Bool). cond b (Some (trip_at list (line_start place list))) None) same
+    where
+      same : ltb place count ≡ ltb place (count + 1)
+      same = split_lt place count (λ l. let m : place < count + 1 = omega arith in rw (lt-ltb _ _ l, lt-ltb _ _ m)) (λ l. let m : count + 1 ≤ place = omega (arith, n) in rw (le-ltb _ _ l, le-ltb _ _ m))
 
 -- the line of a place of an accepted list
 pub place-line : (k least : ℕ) (s : List ℕ) (ts : List Trip) → parse_from least s ≡ trips ts → k < length ts
@@ -172,46 +177,41 @@ located_at list at form = rw (driver_at list at form)
 -- ---- what the reader gives
 
 module _ (list : List ℕ) (place n : ℕ) (e : list_answer list ≡ done n) (acc : Accepted list) where
-  pub read_found : place < n → (t : code.Trip) → t ≡ trip_at list (line_start place list) → given (done n) (in_list list t ∷ []) ≡ read_trip list place
+  read_found : place < n → given (done n) (in_list list (trip_at list (line_start place list)) ∷ []) ≡ read_trip list place
   unfolding read_trip parse
-  read_found h t q =
+  read_found h =
       let c : length (trips_of (parse list)) ≡ n = accepted_trips list n e in
       let p = place-line place 0 list (trips_of (parse list)) acc (omega arith) in
-      rw (e, p.1, q, located_at list (line_start place list) p.0)
+      rw (e, p.1, located_at list (line_start place list) p.0)
 
-  pub read_past : n ≤ place → given (done n) [] ≡ read_trip list place
+  read_past : n ≤ place → given (done n) [] ≡ read_trip list place
   unfolding read_trip
   read_past h =
       let c : length (trips_of (parse list)) ≤ place = omega (arith, accepted_trips list n e) in
       rw (e, drop_of_length-le (trips_of (parse list)) c)
 
-pub read_refused : (list : List ℕ) (place : ℕ) (r : Refusal) → coded_refusal r ≡ list_answer list → given (coded_refusal r) [] ≡ read_trip list place
+  read-held : (t : Option code.Trip) → Held list place n t → given (done n) (trip_or_none list t) ≡ read_trip list place
+  read-held t h =
+      split_lt place n
+      (λ l. rw (h, lt-ltb place n l) (read_found l))
+      (λ l. rw (h, le-ltb place n l) (read_past l))
+
+read_refused : (list : List ℕ) (place : ℕ) (r : Refusal) → coded_refusal r ≡ list_answer list → given (coded_refusal r) [] ≡ read_trip list place
 unfolding read_trip
 read_refused list place r e = rw (← e, refusal-number r)
 
--- ---- one pass over a list
+pub read-range : (list : List ℕ) (place : ℕ) → greatest_list < length list → given RANGE [] ≡ read_trip list place
+read-range list place h = read_refused list place Range (list-range list h)
 
-pub survey_refused : (list : List ℕ) (place : ℕ) (t : code.Trip) (r : Refusal) → coded_refusal r ≡ list_answer list → Surveyed list place (coded_refusal r) t
-survey_refused list place t r e = record { told = e; found = λ n q. refused-done r n q }
+-- at the end of a pass over a list
+module _ (list : List ℕ) (short : length list ≤ greatest_list) (at least count : ℕ) (w : Walked list at least count) (place : ℕ) where
+  pub read-bad : (r : Refusal) → Stopped least (drop at list) (coded_refusal r) → given (coded_refusal r) [] ≡ read_trip list place
+  read-bad r b = read_refused list place r (sym (ap answer_of (walked-bad list at least count w (coded_refusal r) b)) ∙ list-parsed list short)
 
-module _ (list : List ℕ) (short : length list ≤ greatest_list) (at least count : ℕ) (w : Walked list at least count) (place : ℕ) (t : code.Trip) where
-  pub survey_bad : (r : Refusal) → Stopped least (drop at list) (coded_refusal r) → Surveyed list place (coded_refusal r) t
-  survey_bad r b = survey_refused list place t r (sym (ap answer_of (walked-bad list at least count w (coded_refusal r) b)) ∙ list-parsed list short)
-
-  pub survey_done : length list ≤ at → Held list place count t → Surveyed list place (done count) t
-  survey_done over h = record {
-    told = sym (walked-answer list at least count w over) ∙ list-parsed list short;
-    found = λ n q below. h (omega (arith, ap (λ (a : Coded). a.count) q));
-  }
-
--- what it says of each case of the answer
-module _ (list : List ℕ) (place : ℕ) (t : code.Trip) (x : Answer) (s : Surveyed list place (coded x) t) where
-  pub surveyed : (y : Answer) → x ≡ y → coded y ≡ list_answer list
-  surveyed y e = sym (ap coded e) ∙ s.told
-
-  module _ (n : ℕ) (e : x ≡ answers.Done n) where
-    pub surveyed_found : place < n → t ≡ trip_at list (line_start place list)
-    surveyed_found = s.found n (ap coded e)
+  pub read-done : length list ≤ at → (t : Option code.Trip) → Held list place count t → given (done count) (trip_or_none list t) ≡ read_trip list place
+  read-done over t h =
+      let e : list_answer list ≡ done count = sym (list-parsed list short) ∙ walked-answer list at least count w over in
+      read-held list place count e (accepted list count e) t h
 
 -- ---- what the cursor gives
 

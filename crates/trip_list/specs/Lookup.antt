@@ -1,11 +1,11 @@
 -- What the reader and the cursor give.
-use Rattle.std.specs.Prelude.{ℕ, ◌+◌, cond, List, [], ◌∷◌, map, length, take, drop, nat_le, nat_lt}
+use Rattle.std.specs.Prelude.{ℕ, ◌+◌, cond, List, [], ◌∷◌, Option, Some, None, Result, Ok, Err, map, length, take, drop, nat_le, nat_lt}
 use Rattle.answer.specs.Coded.{Coded, done, coded_refusal, TRIP_FORM, TRIP_ORDER}
 use Rattle.answer.specs.Admission.{Test, first_refusal, if_done, test}
 use Rattle.memory.specs.Bytes.{part}
+use Rattle.answer.specs.declared.Refusal.{Refusal}
 use Rattle.trip_list.specs.declared.Trip as code
 use Rattle.trip_list.specs.declared.Lookup.{Lookup}
-use Rattle.trip_list.specs.declared.Lookup.TheVariants.{Found, None, Refused}
 use Rattle.trip_list.specs.Trip.{Trip, trip}
 use Rattle.trip_list.specs.Lines.{has_line, first_trip, line_length, driver_start, line_start}
 use Rattle.trip_list.specs.List.{parse, trips_of, length_test, list_answer}
@@ -30,11 +30,15 @@ given a t = record { answer = a; trip = t }
 abbrev pub in_list : List ℕ → code.Trip → Located
 in_list list t = record { trip = trip t.minute t.metres (part list t.driver t.letters); driver = t.driver; letters = t.letters }
 
--- the number and the count of each case of the code's enum, and its trip or none
-abbrev pub looked : List ℕ → Lookup → Given
-looked list (Found n t) = given (done n) (in_list list t ∷ [])
-looked list (None n) = given (done n) []
-looked list (Refused r) = given (coded_refusal r) []
+-- the code's trip or none
+abbrev pub trip_or_none : List ℕ → Option code.Trip → List Located
+trip_or_none list None = []
+trip_or_none list (Some t) = in_list list t ∷ []
+
+-- the number and the count of each case of the code's result, and its trip or none
+abbrev pub looked : List ℕ → Result Lookup Refusal → Given
+looked list (Ok l) = given (done l.count) (trip_or_none list l.trip)
+looked list (Err r) = given (coded_refusal r) []
 
 -- ---- the reader: a trip by its place; it counts the trips
 

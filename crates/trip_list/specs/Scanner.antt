@@ -1,15 +1,16 @@
 -- What the parts of the code find in front of some bytes.
-use Rattle.std.specs.Prelude.{◌≡◌, ℕ, ◌+◌, ◌<◌, Bool, true, ◌&&◌, List, length, drop, ◌==◌, slice_index}
-use Rattle.answer.specs.Coded.{Coded, done}
+use Rattle.std.specs.Prelude.{◌≡◌, ℕ, ◌+◌, Bool, true, ◌&&◌, List, Option, is_some, IfSome, length, drop, ◌==◌, slice_index}
+use Rattle.answer.specs.Coded.{Coded}
 use Rattle.answer.specs.Admission.{first_refusal}
 use Rattle.text.specs.Decimal.{is_digit, value}
 use Rattle.text.specs.Marks.{LF, comma}
 use Rattle.text.specs.Runs.{run, front}
 use Rattle.trip_list.specs.declared.Trip as code
 use Rattle.trip_list.specs.declared.Line as line
+use Rattle.trip_list.specs.declared.Number as number
 use Rattle.trip_list.specs.Trip.{is_driver_byte, is_number, is_driver, field}
-use Rattle.trip_list.specs.List.{refusal, parse_from, list_answer}
-use Rattle.trip_list.specs.Lines.{first_line, has_line, first_trip, line_length, driver_start, line_start}
+use Rattle.trip_list.specs.List.{refusal, parse_from}
+use Rattle.trip_list.specs.Lines.{first_line, has_line, first_trip, line_length, driver_start}
 use Rattle.trip_list.specs.Lookup.{line_tests}
 
 -- bytes in front that pass a test and are a field, with the mark after them
@@ -22,18 +23,18 @@ number_field = field_before comma is_digit is_number
 unfoldable pub driver_field : List ℕ → Bool
 driver_field = field_before LF is_driver_byte is_driver
 
--- told whether there is such a field, and where there is, facts of it
-pub record Reading (fits is_there : Bool) (facts : Type 0) : Type 0 where
-  pub told : fits ≡ is_there
-  pub read : fits ≡ true → facts
+-- found exactly where it is there, and with these facts
+pub record Reading {A : Type 0} (found : Option A) (is_there : Bool) (Facts : A → Type 0) : Type 0 where
+  pub told : is_some found ≡ is_there
+  pub read : IfSome found Facts
 
 -- a number in front: its value and its digits
-abbrev pub NumberRead : List ℕ → Bool → ℕ → ℕ → Type 0
-NumberRead s fits n digits = Reading fits (number_field s) ((n ≡ value (front is_digit s)) × (digits ≡ run is_digit s))
+abbrev pub NumberRead : List ℕ → Option number.Number → Type 0
+NumberRead s found = Reading found (number_field s) (λ n. (n.value ≡ value (front is_digit s)) × (n.digits ≡ run is_digit s))
 
 -- a driver in front: its letters
-abbrev pub DriverRead : List ℕ → Bool → ℕ → Type 0
-DriverRead s fits n = Reading fits (driver_field s) (n ≡ run is_driver_byte s)
+abbrev pub DriverRead : List ℕ → Option ℕ → Type 0
+DriverRead s found = Reading found (driver_field s) (λ letters. letters ≡ run is_driver_byte s)
 
 -- the numbers of the line in front, where its metres and its driver begin, and its length
 pub record LineFields (s : List ℕ) (l : line.Line) : Type 0 where
@@ -44,8 +45,8 @@ pub record LineFields (s : List ℕ) (l : line.Line) : Type 0 where
   pub letters : l.letters ≡ length (first_trip s).driver
   pub size : l.length ≡ line_length s
 
-abbrev pub LineRead : List ℕ → line.Line → Type 0
-LineRead s l = Reading l.fits (has_line s) (LineFields s l)
+abbrev pub LineRead : List ℕ → Option line.Line → Type 0
+LineRead s found = Reading found (has_line s) (LineFields s)
 
 -- the longest line of the form: two numbers of ten digits, a driver of sixteen letters, and a mark after each
 abbrev pub greatest_line : ℕ
@@ -68,8 +69,3 @@ trip_at list at = record {
   driver = at + driver_start (drop at list);
   letters = length (first_trip (drop at list)).driver;
 }
-
--- one pass over a list: its answer; where that is done, the trip at the place
-pub record Surveyed (list : List ℕ) (place : ℕ) (answer : Coded) (t : code.Trip) : Type 0 where
-  pub told : answer ≡ list_answer list
-  pub found : (n : ℕ) → answer ≡ done n → place < n → t ≡ trip_at list (line_start place list)

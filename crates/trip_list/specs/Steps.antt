@@ -1,10 +1,9 @@
 -- The line at an index of a list, as `line_at` gives it.
-use Rattle.std.specs.Prelude.{ℕ, ◌+◌, true, List, [], ◌∷◌, length, drop}
+use Rattle.std.specs.Prelude.{ℕ, ◌+◌, List, [], ◌∷◌, Result, Ok, Err, length, drop}
 use Rattle.answer.specs.Coded.{Coded, done, coded_refusal}
 use Rattle.answer.specs.Admission.{first_refusal, if_done}
+use Rattle.answer.specs.declared.Refusal.{Refusal}
 use Rattle.trip_list.specs.declared.Line as line
-use Rattle.trip_list.specs.declared.Step.{Step}
-use Rattle.trip_list.specs.declared.Step.TheVariants.{At, Refused}
 use Rattle.trip_list.specs.Trip.{field}
 use Rattle.trip_list.specs.Lines.{first_line, first_trip, line_length, driver_start}
 use Rattle.trip_list.specs.Lookup.{line_tests}
@@ -17,15 +16,14 @@ pub record Told : Type 0 where
 abbrev pub tell : Coded → List line.Line → Told
 tell a l = record { answer = a; line = l }
 
--- the number and the count of each case of the code's enum, and its line or none
-abbrev pub told : Step → Told
-told (At l) = tell (done l.length) (l ∷ [])
-told (Refused r) = tell (coded_refusal r) []
+-- the number and the count of each case of the code's result, and its line or none
+abbrev pub told : Result line.Line Refusal → Told
+told (Ok l) = tell (done l.length) (l ∷ [])
+told (Err r) = tell (coded_refusal r) []
 
 -- the line in front of some bytes: its numbers, where in it the metres and the driver begin, and its length
 unfoldable pub line_of_front : List ℕ → line.Line
 line_of_front s = record {
-  fits = true;
   minute = (first_trip s).minute;
   metres = (first_trip s).metres;
   second = length (field 0 (first_line s)) + 1;

@@ -3,16 +3,16 @@
 // Nothing here knows of the store: a list is bytes, wherever they come from.
 #![tactic(auto)]
 
-ghost use Rattle.std.specs.Prelude.{◌≡◌, ◌≤◌, ◌&&◌, length, if◌then◌else◌, ◌==◌, nat_le};
+ghost use Rattle.std.specs.Prelude.{◌≡◌, ◌≤◌, ◌&&◌, length, not, position, ◌==◌, nat_le};
 ghost use Rattle.answer.specs.Coded.{coded};
-ghost use Rattle.text.specs.Marks.{comma};
+ghost use Rattle.text.specs.Marks.{LF, comma};
 ghost use Rattle.trip_list.specs.Trip.{greatest_number, is_driver_byte};
 ghost use Rattle.trip_list.specs.List.{greatest_list, list_answer};
 ghost use Rattle.trip_list.specs.Lookup.{looked, read_trip, next_trip};
 ghost use Rattle.trip_list.specs.Steps.{told, line_given};
-ghost use Rattle.trip_list.specs.Scanner.{NumberRead, DriverRead, LineRead, LineAt, trip_at, Surveyed};
+ghost use Rattle.trip_list.specs.Scanner.{NumberRead, DriverRead, LineRead, LineAt, trip_at};
 
-use answer::{Answer, Refusal};
+use answer::Refusal;
 
 // The longest list.
 pub const MAX_LIST: usize = 4096;
@@ -22,10 +22,9 @@ const MAX_NUMBER: usize = 4294967295;
 
 // ---- the fields of a line
 
-// Digits in front of a text. Where they are a number with a comma after it: its value, and how many they are.
+// A number in front of a text, with a comma after it: its value, and how many digits it has.
 #[derive(Clone, Copy)]
 struct Number {
-    fits: bool,
     value: usize,
     digits: usize,
 }
@@ -34,101 +33,63 @@ struct Number {
 fn number_ends(value: usize, digits: usize, mark: u8) -> bool
     ensures { result ≡ (nat_le 1 digits && (nat_le value greatest_number && mark == comma)) }
 {
-    if digits < 1 {
-        return false;
-    }
-    if value > MAX_NUMBER {
-        return false;
-    }
-    mark == b','
+    digits >= 1 && value <= MAX_NUMBER && mark == b','
 }
 
-fn number_in_front(text: &[u8]) -> Number
-    ensures { NumberRead text.now result.fits result.value result.digits }
+fn number_in_front(text: &[u8]) -> Option<Number>
+    ensures { NumberRead text.now result }
 {
     let front = words::number(text);
     let mut value = front.value;
-    let mut i = front.count;
-    while i < text.len() {
-        let digit = std::num::wrapping_sub_u8(text[i], b'0');
-        if digit > 9 {
-            return Number {
-                fits: number_ends(value, i, text[i]),
-                value,
-                digits: i,
-            };
+    // The digits past the first eight bytes, by their index, which is how many stand before.
+    for i in front.count..text.len() {
+        let byte = text[i];
+        if !byte.is_ascii_digit() {
+            return number_ends(value, i, byte).then_some(Number { value, digits: i });
         }
         if i == 10 {
-            return Number {
-                fits: false,
-                value: 0,
-                digits: 0,
-            };
+            return None;
         }
-        value = 10 * value + number::widen(digit);
-        i += 1;
+        value = 10 * value + usize::from(byte - b'0');
     }
-    Number {
-        fits: false,
-        value: 0,
-        digits: 0,
-    }
+    None
 }
 
+#[tactic(auto, unfolding(crate::specs::Trip::is_driver_byte))]
 fn is_driver_byte(c: u8) -> bool
     ensures { result ≡ is_driver_byte c }
 {
-    if std::num::wrapping_sub_u8(c, b'A') < 26 {
-        return true;
-    }
-    std::num::wrapping_sub_u8(c, b'0') < 10
+    c.is_ascii_digit() || c.is_ascii_uppercase()
 }
 
-// Letters and digits in front of a text. Whether they are a driver with LF after it, and how many they are.
-#[derive(Clone, Copy)]
-struct Driver {
-    fits: bool,
-    letters: usize,
-}
-
-fn driver_in_front(text: &[u8]) -> Driver
-    ensures { DriverRead text.now result.fits result.letters }
+// Where the letters and digits in front of a text end, if a byte ends them.
+fn driver_end(text: &[u8]) -> Option<usize>
+    ensures { result ≡ position (λ c. not (is_driver_byte c)) text.now }
 {
-    let mut i = words::letters(text);
-    while i < text.len() {
-        if is_driver_byte(text[i]) {
-            i += 1;
-        } else {
-            if i < 1 {
-                return Driver {
-                    fits: false,
-                    letters: 0,
-                };
-            }
-            if i > 16 {
-                return Driver {
-                    fits: false,
-                    letters: 0,
-                };
-            }
-            return Driver {
-                fits: text[i] == b'\n',
-                letters: i,
-            };
-        }
-    }
-    Driver {
-        fits: false,
-        letters: 0,
-    }
+    text.iter().position(|&byte| !is_driver_byte(byte))
+}
+
+// Whether so many letters and digits are a driver, with the LF after it.
+fn driver_ends(letters: usize, mark: u8) -> bool
+    ensures { result ≡ (nat_le 1 letters && (nat_le letters 16 && mark == LF)) }
+{
+    matches!(letters, 1..=16) && mark == b'\n'
+}
+
+// The number of letters of a driver in front of a text, with LF after it.
+fn driver_in_front(text: &[u8]) -> Option<usize>
+    ensures { DriverRead text.now result }
+{
+    let front = words::letters(text);
+    let letters = front + driver_end(&text[front..])?;
+    driver_ends(letters, text[letters]).then_some(letters)
 }
 
 // ---- one line
 
-// The line in front of a text. The other fields tell of it where it has the form.
+// A line of the form.
 #[derive(Clone, Copy)]
 pub struct Line {
-    pub fits: bool,
     pub metres: usize,
     // The length of the driver.
     pub letters: usize,
@@ -141,63 +102,36 @@ pub struct Line {
     pub length: usize,
 }
 
-fn line_in_front(text: &[u8]) -> Line
+fn line_in_front(text: &[u8]) -> Option<Line>
     ensures { LineRead text.now result }
 {
-    let minute = number_in_front(text);
-    if minute.fits {
-        let second = minute.digits + 1;
-        let metres = number_in_front(&text[second..]);
-        if metres.fits {
-            let driver_start = second + metres.digits + 1;
-            let driver = driver_in_front(&text[driver_start..]);
-            if driver.fits {
-                return Line {
-                    fits: true,
-                    minute: minute.value,
-                    metres: metres.value,
-                    second,
-                    driver: driver_start,
-                    letters: driver.letters,
-                    length: driver_start + driver.letters + 1,
-                };
-            }
-        }
-    }
-    Line {
-        fits: false,
-        minute: 0,
-        metres: 0,
-        second: 0,
-        driver: 0,
-        letters: 0,
-        length: 0,
-    }
-}
-
-// The line that starts at an index, or its refusal.
-#[derive(Clone, Copy)]
-pub enum Step {
-    At(Line),
-    Refused(Refusal),
+    let minute = number_in_front(text)?;
+    let second = minute.digits + 1;
+    let metres = number_in_front(&text[second..])?;
+    let driver = second + metres.digits + 1;
+    let letters = driver_in_front(&text[driver..])?;
+    Some(Line {
+        minute: minute.value,
+        metres: metres.value,
+        second,
+        driver,
+        letters,
+        length: driver + letters + 1,
+    })
 }
 
 // The line that starts at index `at`, whose minute is to be at least `least`. Where the list ends at `at` or before, no line has the
 // form. The length of the list is not looked at.
-pub fn line_at(list: &[u8], at: usize, least: usize) -> Step
+pub fn line_at(list: &[u8], at: usize, least: usize) -> Result<Line, Refusal>
     ensures { told result ≡ line_given list.now at least }
 {
-    if at > list.len() {
-        return Step::Refused(Refusal::TripForm);
+    let Some(line) = list.get(at..).and_then(line_in_front) else {
+        return Err(Refusal::TripForm);
+    };
+    if line.minute < least {
+        return Err(Refusal::TripOrder);
     }
-    let line = line_in_front(&list[at..]);
-    if line.fits {
-        if line.minute < least {
-            return Step::Refused(Refusal::TripOrder);
-        }
-        return Step::At(line);
-    }
-    Step::Refused(Refusal::TripForm)
+    Ok(line)
 }
 
 // ---- the cursor
@@ -211,14 +145,11 @@ pub struct Trip {
     pub letters: u32,
 }
 
-// What the reader and the cursor give.
+// What the reader and the cursor give: a count, and a trip if there is one.
 #[derive(Clone, Copy)]
-pub enum Lookup {
-    // A count, and a trip.
-    Found(usize, Trip),
-    // A count, and no trip.
-    None(usize),
-    Refused(Refusal),
+pub struct Lookup {
+    pub count: usize,
+    pub trip: Option<Trip>,
 }
 
 // The trip of a line that starts at index `at`.
@@ -236,100 +167,57 @@ fn trip_of(list: &[u8], at: usize, line: Line) -> Trip
 
 // The trip of the line that starts at index `at`, whose minute is to be at least `least`. The count is the index after that line; it
 // is 0 where the list ends at `at` or before.
-pub fn next_trip(list: &[u8], at: usize, least: usize) -> Lookup
+pub fn next_trip(list: &[u8], at: usize, least: usize) -> Result<Lookup, Refusal>
     ensures { looked list.now result ≡ next_trip list.now at least }
 {
     if list.len() > MAX_LIST {
-        return Lookup::Refused(Refusal::Range);
+        return Err(Refusal::Range);
     }
     if at >= list.len() {
-        return Lookup::None(0);
+        return Ok(Lookup {
+            count: 0,
+            trip: None,
+        });
     }
-    match line_at(list, at, least) {
-        Step::At(line) => Lookup::Found(at + line.length, trip_of(list, at, line)),
-        Step::Refused(refusal) => Lookup::Refused(refusal),
-    }
-}
-
-// ---- the whole list
-
-// What one pass over a list finds: the answer for it, and where that is done the trip at the place, if there is one.
-#[derive(Clone, Copy)]
-struct Findings {
-    answer: Answer,
-    trip: Trip,
-}
-
-fn pick(first: bool, a: Trip, b: Trip) -> Trip
-    ensures { result ≡ (if first then a else b) }
-{
-    if first { a } else { b }
-}
-
-fn survey(list: &[u8], place: usize) -> Findings
-    ensures { Surveyed list.now place (coded result.answer) result.trip }
-{
-    let mut trip = Trip {
-        minute: 0,
-        metres: 0,
-        driver: 0,
-        letters: 0,
-    };
-    if list.len() > MAX_LIST {
-        return Findings {
-            answer: Answer::Refused(Refusal::Range),
-            trip,
-        };
-    }
-    let mut at = 0;
-    let mut least = 0;
-    let mut count = 0;
-    while at < list.len() {
-        match line_at(list, at, least) {
-            Step::At(line) => {
-                trip = pick(count == place, trip_of(list, at, line), trip);
-                at += line.length;
-                least = line.minute + 1;
-                count += 1;
-            }
-            Step::Refused(refusal) => {
-                return Findings {
-                    answer: Answer::Refused(refusal),
-                    trip,
-                };
-            }
-        }
-    }
-    Findings {
-        answer: Answer::Done(count),
-        trip,
-    }
-}
-
-// The number of trips of a list, or its refusal.
-pub fn check(list: &[u8]) -> Answer
-    ensures { coded result ≡ list_answer list.now }
-{
-    let found = survey(list, 0);
-    found.answer
+    let line = line_at(list, at, least)?;
+    Ok(Lookup {
+        count: at + line.length,
+        trip: Some(trip_of(list, at, line)),
+    })
 }
 
 // ---- the reader
 
 // Looks a trip up by its place, counted from 0, and counts the trips.
-pub fn read(list: &[u8], place: usize) -> Lookup
+pub fn read(list: &[u8], place: usize) -> Result<Lookup, Refusal>
     ensures { looked list.now result ≡ read_trip list.now place }
 {
-    let found = survey(list, place);
-    let answer = found.answer;
-    let trip = found.trip;
-    match answer {
-        Answer::Done(count) => {
-            if place < count {
-                return Lookup::Found(count, trip);
-            }
-            Lookup::None(count)
-        }
-        Answer::Refused(refusal) => Lookup::Refused(refusal),
+    if list.len() > MAX_LIST {
+        return Err(Refusal::Range);
     }
+    let mut found = Lookup {
+        count: 0,
+        trip: None,
+    };
+    // Each line begins where the one before it ends.
+    let mut at = 0;
+    let mut least = 0;
+    while at < list.len() {
+        let line = line_at(list, at, least)?;
+        if found.count == place {
+            found.trip = Some(trip_of(list, at, line));
+        }
+        found.count += 1;
+        at += line.length;
+        least = line.minute + 1;
+    }
+    Ok(found)
+}
+
+// The number of trips of a list, or its refusal.
+#[tactic(auto, unfolding(crate::specs::Lookup::read_trip))]
+pub fn check(list: &[u8]) -> Result<usize, Refusal>
+    ensures { coded result ≡ list_answer list.now }
+{
+    read(list, 0).map(|found| found.count)
 }

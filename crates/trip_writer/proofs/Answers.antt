@@ -22,7 +22,7 @@ use Rattle.trip_join.specs.Join.{joined_text, join_answer, joined}
 use Rattle.trip_join.proofs.Claims.{disagree, join-none}
 use Rattle.trip_join.proofs.CallClaims.{Ready, NoConflict, free_of, shape-refused, first-refused, second-refused, conflict-refused, long-refused, join-done, refused_keeps, done-written}
 use Rattle.trip_writer.specs.declared.Stage as stage
-use Rattle.trip_writer.specs.Joining.{no_minute, Joining}
+use Rattle.trip_writer.specs.Joining.{no_minute, minute_of, Joining}
 use Rattle.trip_writer.proofs.Joining.{walk_refused, Ended, ended}
 
 -- ---- accepted lists
@@ -92,22 +92,22 @@ alone : (list : List ℕ) → joined_text list [] ≡ spelling list
 unfolding parse parse_from
 alone list = ap spell (join-none (trips_of (parse list)) (trips-valid list))
 
-module _ (list : List ℕ) (short : length list ≤ greatest_list) (ys : List ℕ) (s : stage.Stage) (w : Joining list [] ys s) (none : no_minute ≤ min s.a.minute s.b.minute) where
-  over : length list ≤ s.i → Ended list [] ys s
+module _ (list : List ℕ) (short : length list ≤ greatest_list) (ys : List ℕ) (s : stage.Stage) (w : Joining list [] ys s) (none : no_minute ≤ min (minute_of s.first.line) (minute_of s.second.line)) where
+  over : length list ≤ s.first.at → Ended list [] ys s
   over o = ended list [] ys s w none o (omega arith)
 
-  pub spelled-fits : length list ≤ s.i → s.end ≤ greatest_list
+  pub spelled-fits : length list ≤ s.first.at → s.end ≤ greatest_list
   spelled-fits o = omega (arith, (over o).ends, ap length (alone list), never_longer list)
 
   module _ (buffer : List ℕ) (shape : length buffer ≡ greatest_list) where
-    pub write-refused : s.i < length list → (a : Coded) → a ≡ list_answer list → (a ≡ write_answer list buffer) × (buffer ≡ written list buffer)
+    pub write-refused : s.first.at < length list → (a : Coded) → a ≡ list_answer list → (a ≡ write_answer list buffer) × (buffer ≡ written list buffer)
     unfolding written
     write-refused inside a e =
-        let n : is_done (list_answer list) ≡ false = is_false _ (λ f. walk_refused list s.i s.a w.first (omega arith) inside (trips-done list (eqb-true _ _ f))) in
+        let n : is_done (list_answer list) ≡ false = is_false _ (λ f. walk_refused list s.first w.first (omega arith) inside (trips-done list (eqb-true _ _ f))) in
         let v = write_answer_lem list buffer shape a (e ∙ rw n) in
         (v, rw (← v, e, n))
 
-    pub write_done : length list ≤ s.i → (zs : List ℕ) → zs ≡ overwrite buffer 0 (take s.end ys) → (done s.end ≡ write_answer list buffer) × (zs ≡ written list buffer)
+    pub write_done : length list ≤ s.first.at → (zs : List ℕ) → zs ≡ overwrite buffer 0 (take s.end ys) → (done s.end ≡ write_answer list buffer) × (zs ≡ written list buffer)
     unfolding written
     write_done o zs e =
         let k = over o in

@@ -1,12 +1,23 @@
 -- The bytes of a line that its spelling keeps, and how they are laid down.
 use mathlib.Core.Path.{◌≡◌, sym, ap, ◌∙◌}
-use mathlib.Core.List.{List, ◌++◌, append_assoc}
-use Prim.Native.Nat.{ℕ, ◌+◌, ◌-◌, ◌*◌, ◌≤◌, ◌<◌}
+use mathlib.Core.List.{List, [], ◌∷◌, ◌++◌, append_assoc}
+use Prim.Native.Nat.{ℕ, zero, suc, ◌+◌, ◌-◌, ◌*◌, ◌≤◌, ◌<◌, min}
 use native.Mathlib.Omega.{arith}
-use lib.ListN.{length, take, drop}
+use lib.ListN.{length, take, drop, length-drop}
+use borrow.Table.Steps.{cases}
+use Rattle.std.specs.List.{prefix_len}
+use Rattle.memory.proofs.Cases.{split_lt}
+use Rattle.text.specs.Decimal.{is_zero}
+use Rattle.text.specs.Runs.{run}
+use Rattle.words.specs.Words.{first_eight}
+use Rattle.text.proofs.Decimal.{ZerosTo, zeros-none}
+use Rattle.trip_list.proofs.Runs.{zeros-first}
+use Rattle.std.proofs.lemmas.Slice.{between_is}
+use Rattle.std.proofs.lemmas.List.{length-take}
+use Rattle.std.proofs.lemmas.List.Sums.{prefix_len-le-length}
 use lib.Seq.{take-take, take_at, drop-drop}
 use Rattle.memory.specs.Bytes.{part, overwrite}
-use Rattle.memory.proofs.Bytes.{length_part, length-overwrite, take-overwrite}
+use Rattle.memory.proofs.Bytes.{length_front, length-overwrite, take-overwrite}
 use Rattle.text.specs.Decimal.{leading_zeros}
 use Rattle.text.specs.Marks.{comma}
 use Rattle.trip_list.specs.declared.Line as line
@@ -18,12 +29,37 @@ use Rattle.trip_list.proofs.Stepping.{driver_start_lem, line-inside, length-fits
 use Rattle.trip_writer.specs.declared.Kept as kept
 use Rattle.trip_writer.specs.Spelling.{spelled_line, KeptAt}
 
--- m elements of a list were laid over xs from `end` on: so the first n of them stand there
-put_more : (list xs : List ℕ) (first end n m : ℕ) → n ≤ m → first + m ≤ length list → end + m ≤ length xs
+-- ---- leading zeros
+
+zeros_are : (ds : List ℕ) (n : ℕ) → n ≡ length ds - 1 → leading_zeros ds ≡ prefix_len is_zero (take n ds)
+zeros_are [] n e = let z : n ≡ 0 = omega arith in rw z
+zeros_are (c ∷ []) n e = let z : n ≡ 0 = omega arith in rw z
+zeros_are (c ∷ d ∷ ds) zero e = absurd (omega arith)
+zeros_are (c ∷ d ∷ ds) (suc n) e = cases (is_zero c) (λ q. rw (q, zeros_are (d ∷ ds) n (omega arith)) (omega arith)) (λ q. rw q)
+
+pub zeros-within : (n count : ℕ) (ds : List ℕ) → count ≡ prefix_len is_zero (take n ds) → count ≤ n
+zeros-within n count ds e = omega (arith, e, prefix_len-le-length is_zero (take n ds), length-take n ds)
+
+-- some zeros, and those that are counted after them
+pub zeros-counted : (s : List ℕ) (digits last z first count : ℕ) → digits ≤ length s → last ≡ digits - 1 → z ≡ run is_zero (first_eight s) → first ≡ min z last
+    → count ≡ prefix_len is_zero (take (last - first) (drop first s)) → first + count ≡ leading_zeros (take digits s)
+zeros-counted s digits last z first count h el ez ef ec =
+    let ds = take digits s in
+    let to : ZerosTo ds first =
+    split_lt digits 2
+    (λ few. let none : first ≡ 0 = omega arith in rw none (zeros-none ds))
+    (λ some. zeros-first s digits z first ez (omega arith) some h) in
+    let rest : drop first ds ≡ take (digits - first) (drop first s) = sym (between_is s first digits) in
+    let n : last - first ≡ length (drop first ds) - 1 = omega (arith, length-drop first ds, length_front digits s h) in
+    let more : leading_zeros (drop first ds) ≡ count = zeros_are (drop first ds) (last - first) n ∙ ap (prefix_len is_zero) (ap (take (last - first)) rest ∙ take-take (last - first) (digits - first) (drop first s) (omega arith)) ∙ sym ec in
+    omega (arith, to.so_far, more)
+
+-- m elements of a list, as far as it has them, were laid over xs from `end` on: so the first n of them stand there
+put_more : (list xs : List ℕ) (first end n m : ℕ) → n ≤ m → first + n ≤ length list → end + n ≤ length xs
     → take (end + n) (overwrite xs end (part list first m)) ≡ take end xs ++ part list first n
 put_more list xs first end n m h k l =
-    let z = length_part list first m k in
-    take-overwrite xs end (part list first m) n (omega arith) (omega arith) ∙ ap (λ (o : List ℕ). take end xs ++ o) (take-take n m (drop first list) h)
+    let z : n ≤ length (part list first m) = omega (arith, length-take m (drop first list), length-drop first list) in
+    take-overwrite xs end (part list first m) n l z ∙ ap (λ (o : List ℕ). take end xs ++ o) (take-take n m (drop first list) h)
 
 -- ---- where the kept bytes lie
 
@@ -108,20 +144,19 @@ module _ (list : List ℕ) (at : ℕ) (l : line.Line) (a : LineAt list at l) whe
         ∙ ap (λ (x : List ℕ). part s f (m - f) ++ x) (piece k.metres g _ (line_length s - g) (omega (arith, z.metres)) o)
         ∙ kept-parts s a.form
 
-    -- as the code lays them: each piece, perhaps with bytes after it
-    pub put_pieces : (xs : List ℕ) (end : ℕ) → end + 2 * greatest_line ≤ length xs → l.length ≤ greatest_line → (ys zs : List ℕ) (n m : ℕ)
-        → at + l.second ≤ k.minute + n → k.minute + n ≤ length list → n ≤ greatest_line → at + l.length ≤ k.metres + m → k.metres + m ≤ length list → m ≤ greatest_line
-        → ys ≡ overwrite xs end (part list k.minute n)
-        → zs ≡ overwrite ys (end + (at + l.second - k.minute)) (part list k.metres m)
+    -- as the code lays them: each piece, with bytes after it
+    pub put_pieces : (xs : List ℕ) (end : ℕ) → end + 2 * greatest_line ≤ length xs → (ys zs : List ℕ) → ys ≡ overwrite xs end (part list k.minute greatest_line)
+        → zs ≡ overwrite ys (end + (at + l.second - k.minute)) (part list k.metres greatest_line)
         → take (end + (at + l.second - k.minute) + (at + l.length - k.metres)) zs ≡ take end xs ++ spelled_line list at
-    put_pieces xs end room short ys zs n m f1 f2 f3 t1 t2 t3 ey ez =
+    put_pieces xs end room ys zs ey ez =
         let i = at + l.second - k.minute in
         let j = at + l.length - k.metres in
         let q = part list k.metres j in
+        let o = in_order in
         let w : length ys ≡ length xs = ap length ey ∙ length-overwrite xs end _ in
         ap (take (end + i + j)) ez
-        ∙ put_more list ys k.metres (end + i) j m (omega arith) t2 (omega (arith, first-second, second_third))
+        ∙ put_more list ys k.metres (end + i) j greatest_line (omega (arith, o, z.minute)) (omega (arith, o)) (omega (arith, o, z.minute, w))
         ∙ ap (λ (o : List ℕ). take (end + i) o ++ q) ey
-        ∙ ap (λ (o : List ℕ). o ++ q) (put_more list xs k.minute end i n (omega arith) f2 (omega (arith, z.minute)))
+        ∙ ap (λ (o : List ℕ). o ++ q) (put_more list xs k.minute end i greatest_line (omega (arith, o, z.minute)) (omega (arith, o, z.minute)) (omega (arith, o, z.minute)))
         ∙ append_assoc (take end xs) (part list k.minute i) q
         ∙ ap (λ (o : List ℕ). take end xs ++ o) kept_at

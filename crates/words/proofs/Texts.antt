@@ -1,10 +1,14 @@
 -- A word of the first bytes of a text.
-use Rattle.std.proofs.Common.{◌≡◌, ℕ, zero, suc, ◌+◌, ◌-◌, ◌*◌, ◌/◌, ◌%◌, ◌^◌, ◌<◌, ◌≤◌, Bool, true, List, [], ◌∷◌, ◌++◌, map, length, get_or, take, drop, sym, refl, ap, ◌∙◌, ap₂, lt_of_lt_of_le, mul_assoc, suc-add, pow-suc, zero-add, mul-one, mul-suc, arith, drop_of_length-le, drop-cons, get_or-take, take-take, pow-add, le-leb}
-use native.Mathlib.Nat.{pow-zero, pow-le-pow_right}
+use Rattle.std.proofs.Common.{◌≡◌, ℕ, zero, suc, ◌+◌, ◌-◌, ◌*◌, ◌/◌, ◌%◌, ◌^◌, ◌<◌, ◌≤◌, true, List, [], ◌∷◌, ◌++◌, map, length, get_or, take, sym, refl, ap, ◌∙◌, ap₂, mul_assoc, suc-add, pow-suc, zero-add, mul-one, mul-suc, arith, get_or-take, take-take, pow-add, le-leb}
+use native.Mathlib.Nat.{pow-zero, div-div-eq-div-mul}
 use lib.Bits.{bit_and, and_mask}
-use lib.Arith.{digits_div, digits_mod, digits_lt}
 use Rattle.memory.proofs.Bytes.{length_front}
 use Rattle.memory.specs.Bytes.{zeros}
+use Rattle.memory.proofs.Cases.{split_lt}
+use Rattle.std.specs.Int.{w64, to_le_bytes, from_le_bytes, bytes_low_first}
+use Rattle.std.specs.Array.{IsFirstChunk}
+use Rattle.std.proofs.lemmas.Nat.{le_bytes_8}
+use lib.ListN.{get_or-eq_default}
 use borrow.Author.Tests.{lt-leb}
 use Rattle.scan.specs.Scan.{every}
 use Rattle.scan.proofs.Scan.{and_left, and_right}
@@ -14,34 +18,6 @@ use Rattle.text.proofs.Decimal.{digit_bounds}
 use Rattle.text.proofs.Runs.{first-few, first-within, first-every}
 use Rattle.words.proofs.Lanes.{wrap_low, wrap_high}
 use Rattle.words.specs.Words.{lanes, bytes_of, first_eight, in_base}
-
--- a loop from the last byte to the first: the word has the bytes from i on, and no others
-pub record Gathered (s : List ℕ) (i word : ℕ) : Type 0 where
-  pub told : lanes 8 (8 - i) word ≡ drop i (take 8 s)
-  pub small : word < 256 ^ (8 - i)
-
-pub gathered_none : (s : List ℕ) → 8 ≤ length s → Gathered s 8 0
-gathered_none s h = record { told = sym (drop_of_length-le (take 8 s) {i = 8} (omega (arith, length_front 8 s h))); small = omega arith }
-
-pub gathered_all : (s : List ℕ) (word : ℕ) → Gathered s 0 word → bytes_of word ≡ take 8 s
-unfolding bytes_of
-gathered_all s word g = g.told
-
-module _ (s : List ℕ) (i word : ℕ) (g : Gathered s i word) (h : 1 ≤ i) where
-  pub gathered_small : word < 256 ^ 7
-  gathered_small = lt_of_lt_of_le g.small (pow-le-pow_right {n = 256} (omega arith) {i = 8 - i} {j = 7} (omega arith))
-
-  pub gathered_next : i ≤ 8 → 8 ≤ length s → get_or s (i - 1) 0 < 256 → Gathered s (i - 1) (256 * word + get_or s (i - 1) 0)
-  gathered_next l k b =
-      let e : 8 - (i - 1) ≡ suc (8 - i) = omega arith in
-      let f : 256 * word + get_or s (i - 1) 0 ≡ word * 256 + get_or s (i - 1) 0 = omega arith in
-      let j : suc (i - 1) ≡ i = omega arith in
-      let w = length_front 8 s k in
-      record {
-        told = rw (e, f, digits_mod word b, digits_div word b, drop-cons (take 8 s) (i - 1) 0 (omega (arith, w)), get_or-take 8 s (i - 1) 0 (omega arith), j)
-            (ap (λ (xs : List ℕ). get_or s (i - 1) 0 ∷ xs) g.told);
-        small = rw (e, f, pow-suc 256 (8 - i)) (digits_lt g.small b);
-      }
 
 -- ---- the lanes of a word
 
@@ -67,13 +43,38 @@ lanes_shift (suc k) m y =
 
 -- ---- the first eight bytes of a text
 
-pub run_short : (t : ℕ → Bool) (s : List ℕ) → length s < 8 → 0 ≡ run t (first_eight s)
-unfolding run first_eight
-run_short t s h = rw (lt-leb 8 (length s) h)
+bytes_from : (k i n : ℕ) → lanes 8 k (n / 256 ^ suc i) ≡ bytes_low_first (suc i) k n
+bytes_from zero i n = refl
+bytes_from (suc k) i n =
+    let e : n / 256 ^ suc i / 256 ≡ n / 256 ^ suc (suc i) = div-div-eq-div-mul n (256 ^ suc i) 256 ∙ ap (λ (m : ℕ). n / m) (sym (pow-suc 256 (suc i))) in
+    ap (λ (xs : List ℕ). n / 256 ^ suc i % 256 ∷ xs) (ap (lanes 8 k) e ∙ bytes_from k (suc i) n)
 
-pub run_long : (t : ℕ → Bool) (s : List ℕ) → 8 ≤ length s → run t (take 8 s) ≡ run t (first_eight s)
-unfolding first_eight
-run_long t s h = rw (le-leb 8 (length s) h)
+bytes_of_lem : (n : ℕ) → bytes_of n ≡ to_le_bytes w64 n
+unfolding bytes_of
+bytes_of_lem n = ap (λ (xs : List ℕ). n % 256 ∷ xs) (bytes_from 7 0 n)
+
+module _ (s : List ℕ) where
+  pub no_word : length s < 8 → first_eight s ≡ []
+  unfolding first_eight
+  no_word h = rw (lt-leb 8 (length s) h)
+
+  eight_first : 8 ≤ length s → first_eight s ≡ take 8 s
+  unfolding first_eight
+  eight_first h = rw (le-leb 8 (length s) h)
+
+  module _ (word : ℕ) where
+    pub word_read : (bs : List ℕ) → IsFirstChunk s bs 8 → ((i : ℕ) → get_or s i 0 < 256) → word ≡ from_le_bytes w64 bs → bytes_of word ≡ first_eight s
+    word_read bs c small e =
+        let l : length (take 8 s) ≡ 8 = length_front 8 s c.enough in
+        let low : (i : ℕ) → get_or (take 8 s) i 0 < 256 =
+        λ i. split_lt i 8 (λ h. rw (get_or-take 8 s i 0 h) (small i)) (λ h. let k : length (take 8 s) ≤ i = omega arith in rw (get_or-eq_default (take 8 s) 0 {n = i} k) (omega arith)) in
+        bytes_of_lem word ∙ le_bytes_8 (take 8 s) word l low (rw c.same at e) ∙ sym (eight_first c.enough)
+
+    -- where they are a word, there are eight
+    module _ (w : bytes_of word ≡ first_eight s) where
+      pub word_bytes : bytes_of word ≡ take 8 s
+      unfolding bytes_of
+      word_bytes = split_lt (length s) 8 (λ h. absurd (omega (arith, ap length w, ap length (no_word h)))) (λ h. w ∙ eight_first h)
 
 -- ---- the value of digits
 

@@ -1,7 +1,7 @@
 // The runs of digits, of zeros and of letters in front of a text, eight bytes at once.
 #![tactic(auto)]
 
-ghost use Rattle.std.specs.Prelude.{◌≡◌, ◌/◌, ◌≤◌, map, length, take, bit_and};
+ghost use Rattle.std.specs.Prelude.{◌≡◌, ◌/◌, [], map, take, MatchOption, bit_and};
 ghost use Rattle.std.specs.Int.Count.{count_trailing_zeros};
 ghost use Rattle.text.specs.Ascii.{is_capital_or_digit};
 ghost use Rattle.text.specs.Decimal.{is_digit, is_zero, value};
@@ -9,28 +9,27 @@ ghost use Rattle.text.specs.Runs.{run};
 ghost use Rattle.words.specs.Words.{bytes_of, first_eight, in_base};
 ghost use Rattle.words.specs.Tests.{no_digit, no_capital};
 
-// A word: eight bytes, the first lowest.
-const BYTES: usize = 8;
-
-// In each byte of a word: the digit 0, and the highest bit.
+// A word is eight bytes, the first lowest. In each of them: the digit 0, and the highest bit.
 const ZEROS: u64 = 0x3030303030303030;
 
 const HIGHEST: u64 = 0x8080808080808080;
 
 // The highest bit of a byte is set exactly where it is no digit, up to the first byte of 128 or more.
+#[tactic(auto, unfolding(crate::specs::Tests::no_digit))]
 fn no_digit(word: u64) -> u64
     ensures { result ≡ no_digit 8 word }
 {
-    word | std::num::wrapping_add_u64(word ^ ZEROS, 0x7676767676767676)
+    word | (word ^ ZEROS).wrapping_add(0x7676767676767676)
 }
 
 // The same where it is no capital letter.
+#[tactic(auto, unfolding(crate::specs::Tests::no_capital))]
 fn no_capital(word: u64) -> u64
     ensures { result ≡ no_capital 8 word }
 {
     let letter = word ^ 0x4040404040404040;
-    let above = std::num::wrapping_add_u64(letter, 0x6565656565656565);
-    let below = std::num::wrapping_add_u64(letter, 0x7f7f7f7f7f7f7f7f) ^ HIGHEST;
+    let above = letter.wrapping_add(0x6565656565656565);
+    let below = letter.wrapping_add(0x7f7f7f7f7f7f7f7f) ^ HIGHEST;
     word | above | below
 }
 
@@ -38,7 +37,7 @@ fn no_capital(word: u64) -> u64
 fn bytes_below(marks: u64) -> usize
     ensures { result ≡ count_trailing_zeros 64 marks / 8 }
 {
-    (u64::trailing_zeros(marks) / 8) as usize
+    (marks.trailing_zeros() / 8) as usize
 }
 
 fn digits_in(word: u64) -> usize
@@ -71,18 +70,12 @@ fn value_in(word: u64) -> u64
 
 // ---- texts
 
-// The first eight bytes of a text as a word.
-fn gather(text: &[u8]) -> u64
-    requires { 8 ≤ length text.now }
-    ensures { bytes_of result ≡ take 8 text.now }
+// The first eight bytes of a text as a word. None of a text that has fewer bytes.
+fn first_word(text: &[u8]) -> Option<u64>
+    ensures { MatchOption result (first_eight text.now ≡ []) (λ word. bytes_of word ≡ first_eight text.now) }
 {
-    let mut word = 0u64;
-    let mut i = BYTES;
-    while i > 0 {
-        i -= 1;
-        word = 256 * word + text[i] as u64;
-    }
-    word
+    let bytes = text.first_chunk()?;
+    Some(u64::from_le_bytes(*bytes))
 }
 
 // The digits in front of the first eight bytes of a text: how many they are, and their value. None of a text that has fewer bytes.
@@ -92,15 +85,15 @@ pub struct Digits {
     pub value: usize,
 }
 
+#[tactic(auto, unfolding(text::specs::Runs::run))]
 pub fn number(text: &[u8]) -> Digits
     ensures { (result.count ≡ run is_digit (first_eight text.now)) × (result.value ≡ value (take result.count text.now)) }
 {
-    if text.len() < BYTES {
+    let Some(word) = first_word(text) else {
         return Digits { count: 0, value: 0 };
-    }
-    let word = gather(text);
+    };
     let count = digits_in(word);
-    if count < 1 {
+    if count == 0 {
         return Digits { count, value: 0 };
     }
     Digits {
@@ -110,21 +103,17 @@ pub fn number(text: &[u8]) -> Digits
 }
 
 // The zeros in front of the first eight bytes of a text. None of a text that has fewer bytes.
+#[tactic(auto, unfolding(text::specs::Runs::run))]
 pub fn zeros(text: &[u8]) -> usize
     ensures { result ≡ run is_zero (first_eight text.now) }
 {
-    if text.len() < BYTES {
-        return 0;
-    }
-    zeros_in(gather(text))
+    first_word(text).map_or(0, zeros_in)
 }
 
 // The capital letters and digits in front of the first eight bytes of a text. None of a text that has fewer bytes.
+#[tactic(auto, unfolding(text::specs::Runs::run))]
 pub fn letters(text: &[u8]) -> usize
     ensures { result ≡ run is_capital_or_digit (first_eight text.now) }
 {
-    if text.len() < BYTES {
-        return 0;
-    }
-    letters_in(gather(text))
+    first_word(text).map_or(0, letters_in)
 }

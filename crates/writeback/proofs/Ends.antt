@@ -1,10 +1,14 @@
 -- How the calls end: a sync on the bytes of a state, refused, cut or done; an admitted mount and format.
-use mathlib.Core.Path.{◌≡◌}
+use mathlib.Core.Path.{◌≡◌, refl}
+use mathlib.Core.Logic.{◌≢◌}
 use mathlib.Core.Bool.{true}
-use mathlib.Core.List.{List}
+use mathlib.Core.List.{List, [], ◌++◌}
 use Prim.Native.Nat.{ℕ, ◌≤◌, ◌<◌}
 use lib.ListN.{length}
 use borrow.Author.Tests.{lt-ltb, le-ltb}
+use Rattle.std.proofs.Common.{Bor, MutBor}
+use Rattle.std.specs.Array.{IsWholeChunk}
+use Rattle.std.specs.Prelude.{Option, Some, MatchOption, Ok}
 use Rattle.answer.specs.declared.Refusal.{Refusal}
 use Rattle.answer.specs.Coded.{done, CUT, coded_refusal}
 use Rattle.answer.specs.Admission.{first_refusal}
@@ -17,12 +21,12 @@ use Rattle.device.specs.Admission.{give, file_tests, media_shape, mount_tests}
 use Rattle.device.specs.Plan.{budgeted, Spent}
 use Rattle.device.specs.Syncing.{sync_plan, synced_state, sync}
 use Rattle.device.specs.Mounting.{mount_plan, mount, format_plan, format}
-use Rattle.device.proofs.Admission.{admit-refused}
+use Rattle.device.proofs.Admission.{admit-refused, mount-refusing, shape-refusing}
 use Rattle.device.proofs.Plan.{plan_ends}
 use Rattle.state_bytes.specs.Encoding.{state_bytes, encode, decode}
 use Rattle.state_bytes.specs.Inverse.{are_bytes}
-use Rattle.state_bytes.specs.InPlace.{Borrowed, borrowed, device_in, borrowed_tests, on_bytes}
-use Rattle.state_bytes.proofs.OnBytes.{refused_on, state_on, bytes_on}
+use Rattle.state_bytes.specs.InPlace.{Borrowed, borrowed, device_in, state_shape, borrowed_tests, on_bytes}
+use Rattle.state_bytes.proofs.OnBytes.{shape-passed, refused_on, state_on, bytes_on}
 use Rattle.writeback.specs.Trims.{trims_to}
 use Rattle.writeback.proofs.Trimming.{mount_trims, format_trims}
 
@@ -57,3 +61,18 @@ module _ (P budget : ℕ) (d : Device) (n : ℕ) (m : Media) where
       → budgeted budget n m d.frames down_state ≡ format P budget d
   unfolding format
   format_ends x = plan_ends P budget (format_plan P d.media) down_state d n m (rw (← format_trims P d.media) at x) (media_shape P d.media)
+
+-- what the tests of a mount and of a format have shown where they pass
+module _ (P : ℕ) (m : Media) (state : List ℕ) where
+  pub mount_tested : done 0 ≡ first_refusal (state_shape state ++ mount_tests P m) (done 0) → (length state ≡ state_bytes) × (passed (mount_tests P m) ≡ true)
+  mount_tested e = shape-passed state (mount_tests P m) (Ok 0) 0 (mount-refusing P (device_of m [] (decode state))) e refl
+
+  pub format_tested : done 0 ≡ first_refusal (state_shape state ++ media_shape P m) (done 0) → (length state ≡ state_bytes) × (passed (media_shape P m) ≡ true)
+  format_tested e = shape-passed state (media_shape P m) (Ok 0) 0 (shape-refusing P (device_of m [] (decode state))) e refl
+
+-- a slice of the length of an array, as that array
+pub whole_mut : (n : ℕ) {xs : List ℕ} {o : Option (MutBor (List ℕ))} {r : MutBor (List ℕ)} → MatchOption o (length xs ≢ n) (λ y. IsWholeChunk xs y.now n) → o ≡ Some r → r.now ≡ xs
+whole_mut n h e = (rw e at h).same
+
+pub whole : (n : ℕ) {xs : List ℕ} {o : Option (Bor (List ℕ))} {r : Bor (List ℕ)} → MatchOption o (length xs ≢ n) (λ y. IsWholeChunk xs y.now n) → o ≡ Some r → r.now ≡ xs
+whole n h e = (rw e at h).same

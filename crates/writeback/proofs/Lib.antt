@@ -1,4 +1,5 @@
 mod Ends
 mod Pages
+mod Paying
 mod Trimming
 mod Zeros

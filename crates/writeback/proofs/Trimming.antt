@@ -1,6 +1,6 @@
 -- The loop over the files of a mount or of a format, and that its TRIMs are theirs.
-use mathlib.Core.Path.{◌≡◌, refl, sym, ap}
-use mathlib.Core.Bool.{Bool, true, false, not, ◌||◌}
+use mathlib.Core.Path.{◌≡◌, refl, sym}
+use mathlib.Core.Bool.{Bool, or-false}
 use mathlib.Core.List.{List, ◌++◌}
 use Prim.Native.Nat.{ℕ, zero, suc, ◌+◌, ◌-◌, ◌≤◌, ◌<◌}
 use native.Mathlib.Omega.{arith}
@@ -62,13 +62,9 @@ unfolding trims_from
 trims_same needed other size target h k zero f = refl
 trims_same needed other size target h k (suc n) f = rw (h f, k f, trims_same needed other size target h k n (suc f))
 
-pub or_false : (a b : Bool) → b ≡ false → a ≡ a || b
-or_false true b e = refl
-or_false false b e = sym e
-
 pub mount_trims : (P : ℕ) (m : Media) → mount_plan P m ≡ trims_to P m m.sizes
 unfolding mount_plan trims_to needs_trim
-mount_trims P m = trims_same _ _ _ _ (λ f. or_false (nonzero_from P m f (size_at m f)) _ (ap not (eq-eqb (size_at m f) (size_at m f) refl))) (λ f. refl) files 0
+mount_trims P m = trims_same _ _ _ _ (λ f. rw (eq-eqb (size_at m f) (size_at m f) refl) (sym (or-false (nonzero_from P m f (size_at m f))))) (λ f. refl) files 0
 
 pub format_trims : (P : ℕ) (m : Media) → format_plan P m ≡ trims_to P m (zeros files)
 unfolding format_plan trims_to needs_trim

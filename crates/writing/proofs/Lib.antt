@@ -1,2 +1,4 @@
+pub mod Admitted
+pub mod Arrays
 pub mod Puts
 pub mod Tails

@@ -1,40 +1,35 @@
 -- The pages of a write.
 use mathlib.Core.Path.{◌≡◌, refl, sym, ap, ◌∙◌}
 use mathlib.Core.Logic.{◌≢◌}
-use mathlib.Core.Bool.{Bool, true, false, cond}
-use mathlib.Core.List.{List, []}
+use mathlib.Core.Bool.{true, false, cond}
+use mathlib.Core.List.{List}
+use Rattle.std.specs.Prelude.{Option, Some, None, SomeIff, is_some}
 use Prim.Native.Nat.{ℕ, zero, suc, ◌+◌, ◌<◌, ◌≤◌, ◌-◌, ◌/◌, ◌%◌, min}
 use native.Mathlib.Omega.{arith}
 use lib.ListN.{length, get_or, drop, length-drop}
 use lib.Seq.{drop-drop}
-use borrow.Author.Tests.{lt-ltb, le-ltb, ltb-true}
+use borrow.Author.Tests.{ltb-true}
 use borrow.Table.Steps.{cases}
-use Rattle.memory.specs.Bytes.{part}
+use Rattle.memory.specs.Bytes.{part, overwrite}
 use Rattle.media.specs.Geometry.{files, page_bytes, file_bytes, pages_per_file}
-use Rattle.media.specs.Write.{media_of}
+use Rattle.media.specs.Write.{Media}
 use Rattle.scan.specs.Scan.{first_index}
 use Rattle.device.specs.declared.Slot.{Slot}
 use Rattle.device.specs.declared.CacheState.{CacheState}
 use Rattle.admission.specs.Tables.{slot_table, slot_for}
 use Rattle.admission.proofs.Pass.{slot_for_lem}
 use Rattle.scan.proofs.Scan.{first-set}
-use Rattle.device.specs.Device.{Device, device_of, slot_count, free_slot, used_slot, is_free, holds, slot_of, is_cached, first_free}
+use Rattle.device.specs.Device.{Device, device_of, slot_count, frame_start, free_slot, used_slot, holds, slot_of, is_cached, first_free}
 use Rattle.device.specs.Writing.{has_slot, cache_page, patch_page, put_page, and_more, put_pages}
 use Rattle.device.proofs.Device.{holds_one, free-holds, first_free_was_free}
 use Rattle.device.proofs.Writing.{pages-none, pages-stop, pages-next}
 
--- ---- whether a page has a slot: k is its own, and j the first that is free
+-- ---- the slot of a page
 
-module _ (s : CacheState) (f p k : ℕ) (ek : k ≡ first_index (holds f p) s.slots) where
-  pub slot_own : k < slot_count → true ≡ has_slot (device_of (media_of [] []) [] s) f p
-  slot_own h = rw (← ek, lt-ltb k slot_count h)
-
-  module _ (h : slot_count ≤ k) (j : ℕ) (ej : j ≡ first_index is_free s.slots) where
-    pub slot_free : j < slot_count → true ≡ has_slot (device_of (media_of [] []) [] s) f p
-    slot_free l = rw (← ek, le-ltb k slot_count h, ← ej, lt-ltb j slot_count l)
-
-    pub slot_none : slot_count ≤ j → false ≡ has_slot (device_of (media_of [] []) [] s) f p
-    slot_none l = rw (← ek, le-ltb k slot_count h, ← ej, le-ltb j slot_count l)
+-- where a slot is found just when there is one, none is where none is found
+pub none_is : (o : Option ℕ) (P : Type 0) (k : ℕ) → SomeIff o P k → is_some o ≡ false → ¬ P
+none_is (Some x) P k h e = cc
+none_is None P k h e = h
 
 -- another page keeps its slot
 pub other_slot : (P f p q offset : ℕ) (bytes : List ℕ) (d : Device) → length d.cache.slots ≡ slot_count → has_slot d f p ≡ true → q ≢ p
@@ -50,12 +45,12 @@ other_slot P f p q offset bytes d l h ne =
     (holds_one f p f q (used_slot f p) refl refl (λ k. ne k.1))
     (free-holds f q (get_or d.cache.slots (first_free d) free_slot) (first_free_was_free d (omega arith)))))
 
--- what a page step left, by whether the page had a slot
-pub taken_yes : (b : Bool) (c x y : Device) → c ≡ cond b x y → b ≡ true → c ≡ x
-taken_yes b c x y e t = e ∙ rw t
-
-pub taken_no : (b : Bool) (c x y : Device) → c ≡ cond b x y → b ≡ false → c ≡ y
-taken_no b c x y e t = e ∙ rw t
+-- the piece goes into the frame of the slot that the page has, or has taken
+pub put_in_slot : (P f p offset k : ℕ) (bytes : List ℕ) (d : Device) (m : Media) (frames : List ℕ) (s : CacheState)
+    → device_of m frames s ≡ cond (is_cached d f p) d (cache_page P f p d) → k ≡ first_index (holds f p) s.slots
+    → device_of m (overwrite frames (frame_start k + offset) bytes) s ≡ put_page P f p offset bytes d
+unfolding put_page patch_page
+put_in_slot P f p offset k bytes d m frames s e ek = rw (← e, ek)
 
 -- ---- the table of slots
 

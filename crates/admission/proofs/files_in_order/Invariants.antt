@@ -1,7 +1,5 @@
--- `admission::files_in_order` meets its contract: no bit is set where all files below f pass.
-use Prim.Native.Nat.{◌≤◌, ◌-◌}
-use lib.Dec.{eqb}
-use Rattle.media.specs.Geometry.{files, file_bytes, pages_per_file}
+-- `admission::files_in_order` meets its contract: whether all files below f pass.
+use Rattle.media.specs.Geometry.{file_bytes, pages_per_file}
 use Rattle.device.specs.Sizes.{in_order}
 use Rattle.device.specs.Sound.{sizes_beside}
 use Rattle.state_bytes.specs.Encoding.{decode}
@@ -9,7 +7,4 @@ use Rattle.scan.proofs.Loops.{FlaggedBelow}
 use Rattle.admission.proofs.files_in_order.Given as goal
 
 abbrev pub invariant-loop-f : goal.invariant-loop-f
-invariant-loop-f l = FlaggedBelow (λ f. in_order (file_bytes pages_per_file) (sizes_beside l.sizes (decode l.state) f)) l.f (eqb l.wrong 0) × (l.f ≤ files)
-
-abbrev pub decreases-loop-f : goal.decreases-loop-f
-decreases-loop-f l = files - l.f
+invariant-loop-f l = FlaggedBelow (λ f. in_order (file_bytes pages_per_file) (sizes_beside l.sizes (decode l.state) f)) l.f l.ordered

@@ -1,14 +1,19 @@
-use mathlib.Core.Path.{sym, ap, ◌∙◌}
-use native.Mathlib.Omega.{arith}
-use borrow.Author.Tests.{eq-eqb}
+use mathlib.Core.Path.{refl}
 use borrow.Author.Rules.{rules}
-use Rattle.device.specs.Device.{is_free, free_slot}
+use borrow.Author.Tests.{tests}
+use lib.ListN.{get_or}
+use Rattle.std.proofs.lemmas.Iterator.{YieldsList-from_range}
+use Rattle.std.proofs.lemmas.Iterator.Search.{position_from_yields_List}
+use Rattle.device.specs.Device.{is_free, free_slot, slot_count}
+use Rattle.state_bytes.specs.Encoding.{decode}
 use Rattle.state_bytes.proofs.InPlace.{shaped}
-use Rattle.scan.proofs.Loops.{searched_none, searched_here}
+use Rattle.admission.proofs.Indices.{first_indices, found}
 use Rattle.admission.proofs.first_free.Goals as goal
 
-pub loop-k-init : goal.loop-k-init
-loop-k-init c = (searched_none, search rules, (shaped _).slots)
-
-pub returns-then-s-eq0 : goal.returns-then-s-eq0
-returns-then-s-eq0 c = searched_here free_slot c.loop-k.invariant.0 (omega arith) (ap is_free (sym c.slot_at-s.ensures) ∙ eq-eqb _ 0 c.if-s-eq0.true)
+pub returns : goal.returns
+returns c =
+    let slots = (decode c.args.state.now).slots in
+    let e =
+    position_from_yields_List (λ k. is_free (get_or slots k free_slot)) _ _ c.position.result c.position.ensures.ran (YieldsList-from_range 0 slot_count slot_count refl refl) (λ x b q k. search (rules, tests))
+    in
+    found _ slot_count _ (rw (first_indices is_free free_slot slots slot_count (shaped _).slots) at e)

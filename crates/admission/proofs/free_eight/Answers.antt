@@ -1,6 +1,5 @@
 use mathlib.Core.Path.{sym, ap, ◌∙◌}
 use lib.ListN.{length}
-use borrow.Author.Rules.{rules}
 use Rattle.state_bytes.specs.Encoding.{slot_set}
 use Rattle.admission.specs.Freeing.{is_from}
 use Rattle.admission.proofs.Freeing.{freed_here, freed_none, length-slot_set}
@@ -19,11 +18,8 @@ loop-i-preserved c =
                 ∙ freed_here a.file a.n i bytes state (c.loop-i.invariant.0 bytes h) (t ∙ w.if-is_from.true)
             | else-is_from w ↦ w.state-is ∙ freed_none a.file a.n i bytes state (c.loop-i.invariant.0 bytes h) (t ∙ w.if-is_from.false)
           ],
-      search rules,
-      search rules,
-      search rules,
       elim c.if-is_from.branch [
-        | then-is_from w ↦ ap length w.state-is ∙ ap length w.set_slot.ensures ∙ length-slot_set state i _ ∙ c.loop-i.invariant.4
-        | else-is_from w ↦ ap length w.state-is ∙ c.loop-i.invariant.4
+        | then-is_from w ↦ ap length w.state-is ∙ ap length w.set_slot.ensures ∙ length-slot_set state i _ ∙ c.loop-i.invariant.1
+        | else-is_from w ↦ ap length w.state-is ∙ c.loop-i.invariant.1
       ],
     )

@@ -1,14 +1,10 @@
 -- `admission::free_eight` meets its contract: of the slots before i those of such pages are free.
 use mathlib.Core.Path.{◌≡◌}
 use mathlib.Core.List.{List}
-use Prim.Native.Nat.{ℕ, ◌+◌, ◌≤◌, ◌-◌}
+use Prim.Native.Nat.{ℕ}
 use lib.ListN.{length}
-use Rattle.device.specs.Device.{slot_count}
 use Rattle.admission.specs.Freeing.{freed_slots}
 use Rattle.admission.proofs.free_eight.Given as goal
 
 abbrev pub invariant-loop-i : goal.invariant-loop-i
-invariant-loop-i l = ((bytes : List ℕ) → l.initial.state ≡ freed_slots l.file l.n l.k bytes → l.state ≡ freed_slots l.file l.n l.i bytes) × (l.i ≤ l.end) × (l.end ≡ l.k + 8) × (l.k + 8 ≤ slot_count) × (length l.state ≡ length l.initial.state)
-
-abbrev pub decreases-loop-i : goal.decreases-loop-i
-decreases-loop-i l = l.end - l.i
+invariant-loop-i l = ((bytes : List ℕ) → l.initial.state ≡ freed_slots l.file l.n l.k bytes → l.state ≡ freed_slots l.file l.n l.i bytes) × (length l.state ≡ length l.initial.state)

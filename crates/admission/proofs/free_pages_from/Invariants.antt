@@ -1,12 +1,9 @@
 -- `admission::free_pages_from` meets its contract: of the slots before k those of such pages are free.
 use mathlib.Core.Path.{◌≡◌}
-use Prim.Native.Nat.{◌%◌, ◌≤◌, ◌-◌}
+use Prim.Native.Nat.{◌%◌, ◌≤◌}
 use Rattle.device.specs.Device.{slot_count}
 use Rattle.admission.specs.Freeing.{freed_slots}
 use Rattle.admission.proofs.free_pages_from.Given as goal
 
 abbrev pub invariant-loop-k : goal.invariant-loop-k
-invariant-loop-k l = (l.state ≡ freed_slots l.file l.n l.k l.initial.state) × (l.k ≤ slot_count) × (l.k % 8 ≡ 0)
-
-abbrev pub decreases-loop-k : goal.decreases-loop-k
-decreases-loop-k l = slot_count - l.k
+invariant-loop-k l = record { freed : l.state ≡ freed_slots l.file l.n l.k l.initial.state; within : l.k ≤ slot_count; by_eight : l.k % 8 ≡ 0 }

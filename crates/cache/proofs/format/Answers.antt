@@ -1,9 +1,14 @@
 -- `cache::format` meets its contract: the bytes of the state, the call on them, and the state that they say.
+use borrow.Author.Rules.{rules}
+use Rattle.media.specs.Geometry.{pages_per_file}
+use Rattle.media.specs.Write.{media_of}
+use Rattle.device.specs.Mounting.{format}
 use Rattle.state_bytes.proofs.OnBytes.{back_on, format-shaped}
 use Rattle.cache.proofs.format.Goals as goal
 
 pub returns : goal.returns
 returns c =
-    λ frames. rw c.decode.ensures
-    (back_on _ frames _ (search) _ (λ d. format-shaped _ d _) _ _ _ _
-    (rw c.bytes_of-state.ensures at (c.format-answer.ensures frames)))
+    let a = c.args in
+    let k = c.on_bytes.ensures.called in
+    λ frames. rw k.2
+    (back_on (media_of a.media.now a.sizes.now) frames a.cache c.on_bytes.ensures.shaped (format pages_per_file a.budget) (λ d. format-shaped _ d _) _ _ _ k.0 (search rules))

@@ -2,20 +2,24 @@
 use native.Mathlib.Omega.{arith}
 use Rattle.device.proofs.Looking.{span_within, span_in_frames, span_in_media}
 use Rattle.cache.proofs.look.Goals as goal
+use Rattle.cache.proofs.look.Goals.{then-span, else-span}
 
-pub overflow_add-end : goal.overflow_add-end
-overflow_add-end c =
+pub overflow_add-result : goal.overflow_add-result
+overflow_add-result c =
     let w = span_within _ _ _ _ _ c.look_span-span.ensures in
     omega (arith, w.from_most, w.count_most)
 
 pub slice_bounds-result-end : goal.slice_bounds-result-end
-slice_bounds-result-end c = omega (arith, (span_within _ _ _ _ _ c.look_span-span.ensures).frames c.if-span.true)
-
-pub returns-then-span : goal.returns-then-span
-returns-then-span c = span_in_frames _ _ _ _ _ c.look_span-span.ensures _ _ c.if-span.true
-
-pub slice_bounds-result-end-2 : goal.slice_bounds-result-end-2
-slice_bounds-result-end-2 c = omega (arith, (span_within _ _ _ _ _ c.look_span-span.ensures).media c.if-span.false)
+slice_bounds-result-end c =
+    let p = span_within _ _ _ _ _ c.look_span-span.ensures in
+    elim c.if-span.branch [
+      | then-span w ↦ rw w.bytes-is (omega (arith, p.frames w.if-span.true))
+      | else-span w ↦ rw w.bytes-is (omega (arith, p.media w.if-span.false))
+    ]
 
 pub returns : goal.returns
-returns c = span_in_media _ _ _ _ _ c.look_span-span.ensures _ _ c.if-span.false
+returns c =
+    elim c.if-span.branch [
+      | then-span w ↦ rw w.bytes-is (span_in_frames _ _ _ _ _ c.look_span-span.ensures _ _ w.if-span.true)
+      | else-span w ↦ rw w.bytes-is (span_in_media _ _ _ _ _ c.look_span-span.ensures _ _ w.if-span.false)
+    ]

@@ -4,4 +4,4 @@ use Rattle.state_bytes.proofs.OnBytes.{same_span}
 use Rattle.cache.proofs.look_span.Goals as goal
 
 pub returns : goal.returns
-returns c = (rw c.bytes_of-state.ensures at c.look_span.ensures) ∙ same_span _ _ _ (search) _ _ _
+returns c = (rw c.bytes_of.ensures at c.look_span.ensures) ∙ same_span _ _ _ (search) _ _ _

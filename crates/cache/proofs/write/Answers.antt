@@ -1,9 +1,14 @@
 -- `cache::write` meets its contract: the bytes of the state, the call on them, and the state that they say.
+use borrow.Author.Rules.{rules}
+use Rattle.media.specs.Geometry.{pages_per_file}
+use Rattle.media.specs.Write.{media_of}
+use Rattle.device.specs.Writing.{write}
 use Rattle.state_bytes.proofs.OnBytes.{back_on, write-shaped}
 use Rattle.cache.proofs.write.Goals as goal
 
 pub returns : goal.returns
 returns c =
-    rw c.decode.ensures
-    (back_on _ _ _ (search) _ (λ d. write-shaped _ d _ _ _) _ _ _ _
-    (rw c.bytes_of-state.ensures at c.write-answer.ensures))
+    let a = c.args in
+    let k = c.on_bytes.ensures.called in
+    rw k.2
+    (back_on (media_of a.media.now a.sizes.now) a.frames.now a.cache c.on_bytes.ensures.shaped (write pages_per_file a.file a.position a.bytes.now) (λ d. write-shaped _ d _ _ _) _ _ _ k.0 (search rules))

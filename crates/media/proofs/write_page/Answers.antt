@@ -4,14 +4,11 @@ use native.Mathlib.Omega.{arith}
 use lib.ListN.{length}
 use Rattle.memory.proofs.Bytes.{overwrite-whole}
 use Rattle.media.specs.Geometry.{page_bytes}
-use Rattle.media.proofs.Direct.{page-shape, bytes-shape, page-done}
+use Rattle.media.proofs.Direct.{lengths-shape, page-done}
 use Rattle.media.proofs.write_page.Goals as goal
 
 pub returns-then-page-ne-PAGE_BYTES : goal.returns-then-page-ne-PAGE_BYTES
-returns-then-page-ne-PAGE_BYTES c = page-shape _ _ (omega arith)
-
-pub returns-then-bytes-ne-PAGE_BYTES : goal.returns-then-bytes-ne-PAGE_BYTES
-returns-then-bytes-ne-PAGE_BYTES c = bytes-shape _ _ (omega arith) (omega arith)
+returns-then-page-ne-PAGE_BYTES c = lengths-shape _ _ c.then-page-ne-PAGE_BYTES.either
 
 pub returns : goal.returns
 returns c =

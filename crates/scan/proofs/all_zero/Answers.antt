@@ -1,14 +1,12 @@
-use native.Mathlib.Omega.{arith}
+-- `scan::all_zero` meets its contract: the bitwise or of all bytes is 0 where they are.
+use mathlib.Core.Path.{◌≡◌}
+use lib.Bits.{bit_or}
 use borrow.Author.Rules.{rules}
-use Rattle.scan.proofs.Loops.{flagged-none, flagged_end}
-use Rattle.scan.proofs.Zeros.{zero-next}
+use Rattle.std.specs.List.{fold}
+use Rattle.scan.proofs.Zeros.{zero-fold}
 use Rattle.scan.proofs.all_zero.Goals as goal
 
-pub loop-i-init : goal.loop-i-init
-loop-i-init c = (flagged-none, search rules)
-
-pub loop-i-preserved : goal.loop-i-preserved
-loop-i-preserved c = (zero-next c.args.bytes.now c.loop-i.i c.loop-i.bits c.loop-i.invariant.0 (omega arith), search rules)
-
 pub returns : goal.returns
-returns c = flagged_end 0 c.loop-i.invariant.0 (omega arith)
+returns c =
+    let all : c.fold.result ≡ fold bit_or 0 c.args.bytes.now = search rules in
+    rw all (zero-fold 0 c.args.bytes.now)

@@ -1,21 +1,9 @@
 -- `session::run` meets its contract: each block that was served adds to what was read and printed, and the end makes it whole.
-use Rattle.std.proofs.Common.{◌∙◌, arith}
 use Rattle.session.proofs.Served.{one_more, replied}
 use Rattle.session.proofs.run.Goals as goal
 
-pub loop-turns-preserved : goal.loop-turns-preserved
-loop-turns-preserved g c =
-    let l = c.loop-turns.invariant in
-    let k = c.serve_block-next.auto in (
-      k.media ∙ l.0,
-      k.sizes ∙ l.1,
-      k.frames ∙ l.2,
-      k.input ∙ l.3,
-      k.output ∙ l.4,
-      one_more _ _ _ _ _ _ _ _ _ _ _ _ l.5 (c.serve_block-next.ensures.goes_on c.if-next.true),
-    )
+pub loop-preserved : goal.loop-preserved
+loop-preserved g c = one_more _ _ _ _ _ _ _ _ _ _ _ _ c.loop.invariant (rw c.in-Some.is at c.in_ok-next.ensures)
 
-pub returns-else-next : goal.returns-else-next
-returns-else-next g c whole some =
-    let l = c.loop-turns.invariant in
-    replied _ _ _ _ _ _ _ l.5 (c.serve_block-next.ensures.ends whole (omega (arith, l.3, some)))
+pub returns-in-None : goal.returns-in-None
+returns-in-None g c = replied _ _ _ _ _ _ _ c.loop.invariant (rw c.in-None.is at c.in_ok-next.ensures)

@@ -1,12 +1,11 @@
--- `session_line::numbers` meets its contract: i numbers are read.
-use mathlib.Core.Path.{◌≡◌}
-use Prim.Native.Nat.{◌≤◌, ◌-◌}
-use lib.ListN.{length, take}
-use Rattle.session_line.proofs.Grammar.{Parsing}
+-- `session_line::numbers` meets its contract: the numbers before i are read.
+use Rattle.std.proofs.Common.{◌≡◌, ◌-◌, length}
+use Rattle.text.specs.Marks.{fields}
+use Rattle.session_line.proofs.Grammar.{left, Parsing}
 use Rattle.session_line.proofs.numbers.Given as goal
 
 abbrev pub invariant-loop-i : goal.invariant-loop-i
-invariant-loop-i l = Parsing l.line (take l.count l.limits) l.values l.at l.i × (l.i ≤ l.count) × (length l.values ≡ 4)
+invariant-loop-i g l = Parsing l.fn.limits (fields l.text) l.values l.i (left l.fields) × (length l.values ≡ length l.fn.limits)
 
 abbrev pub decreases-loop-i : goal.decreases-loop-i
-decreases-loop-i l = l.count - l.i
+decreases-loop-i g l = length l.fn.limits - l.i

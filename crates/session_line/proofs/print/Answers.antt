@@ -1,65 +1,41 @@
 -- `session_line::print` meets its contract: the parts of the line are laid one after another over the front of the output.
-use mathlib.Core.Path.{◌≡◌, sym, ap, ◌∙◌}
-use mathlib.Core.List.{List}
-use Prim.Native.Nat.{ℕ, ◌+◌, ◌*◌, ◌<◌}
-use native.Mathlib.Omega.{arith}
-use lib.ListN.{length, length-set}
-use Rattle.answer.specs.Coded.{Coded, coded, done, SHAPE}
+use Rattle.std.proofs.Common.{◌≡◌, ◌+◌, ◌*◌, ◌<◌, ◌∙◌, arith, sym, ap, length}
+use Rattle.answer.specs.Coded.{coded, done}
 use Rattle.text.specs.Decimal.{decimal}
-use Rattle.text.proofs.Decimal.{decimal-fits}
-use Rattle.session_line.specs.Reply.{reply_line, print_answer, printed}
-use Rattle.session_line.proofs.Reply.{reply-length, reply_put, print_fits, print_short}
+use Rattle.session_line.specs.Reply.{reply_line}
+use Rattle.session_line.proofs.Reply.{decimal_text, reply-length, reply_put, print_fits, print_short}
 use Rattle.session_line.proofs.print.Goals as goal
+use Rattle.session_line.proofs.print.Goals.{then-output-frame-via-then-output-frame, then-output-frame-via-else-output-frame+then-output-frame-2}
 
--- how long the line is
-line-length : (a : Coded) (bytes : List ℕ) (number count : ℕ) → number ≡ a.number → count ≡ a.count
-    → length (reply_line a bytes) ≡ length (decimal number) + length (decimal count) + 2 * length bytes + 3
-line-length a bytes number count n k = rw (n, k) (reply-length a bytes)
-
--- a line that does not fit is not printed
-not-printed : (text output : List ℕ) → length output < length text → (SHAPE ≡ print_answer text output) × (output ≡ printed text output)
-not-printed text output h =
-    let p = print_short text output h in (sym p.0, sym p.1)
-
-pub overflow_add-decimal_length : goal.overflow_add-decimal_length
-overflow_add-decimal_length c = omega (arith, decimal-fits c.number-number.result (omega arith), decimal-fits c.count-count.result (omega arith))
-
-pub overflow_add-decimal_length-2 : goal.overflow_add-decimal_length-2
-overflow_add-decimal_length-2 c = omega (arith, decimal-fits c.number-number.result (omega arith), decimal-fits c.count-count.result (omega arith))
-
-pub returns-then-room-lt1 : goal.returns-then-room-lt1
-returns-then-room-lt1 c = not-printed _ _ (omega (arith, line-length (coded c.args.answer) c.args.bytes.now _ _ c.number-number.ensures c.count-count.ensures))
-
-pub returns-then-room-bytes : goal.returns-then-room-bytes
-returns-then-room-bytes c = not-printed _ _ (omega (arith, line-length (coded c.args.answer) c.args.bytes.now _ _ c.number-number.ensures c.count-count.ensures))
-
-pub put_decimal-second-requires : goal.put_decimal-second-requires
-put_decimal-second-requires c = simp length-set (omega (arith, c.put_decimal-first.auto.output))
-
-pub bounds-output-second : goal.bounds-output-second
-bounds-output-second c = omega (arith, c.put_decimal-second.auto.output ∙ length-set _ _ _ ∙ c.put_decimal-first.auto.output)
-
-pub put_hex-requires : goal.put_hex-requires
-put_hex-requires c = simp length-set (omega (arith, c.put_decimal-second.auto.output ∙ length-set _ _ _ ∙ c.put_decimal-first.auto.output))
-
-pub bounds-output-end : goal.bounds-output-end
-bounds-output-end c = omega (arith, c.put_hex.auto.output ∙ length-set _ _ _ ∙ c.put_decimal-second.auto.output ∙ length-set _ _ _ ∙ c.put_decimal-first.auto.output)
-
-pub shape_of-output : goal.shape_of-output
-shape_of-output c = simp length-set (c.put_hex.auto.output ∙ length-set _ _ _ ∙ c.put_decimal-second.auto.output ∙ length-set _ _ _ ∙ c.put_decimal-first.auto.output)
+pub returns-then-output-frame : goal.returns-then-output-frame
+returns-then-output-frame c =
+    let a = coded c.args.answer in
+    let number : c.as_bytes-number.result.now ≡ decimal a.number = decimal_text _ _ _ (c.as_bytes-number.ensures.value ∙ c.format.ensures.text) (omega arith) c.number.ensures in
+    let count : c.as_bytes-count.result.now ≡ decimal a.count = decimal_text _ _ _ (c.as_bytes-count.ensures.value ∙ c.format-2.ensures.text) (omega arith) c.count.ensures in
+    let l : length (reply_line a c.args.bytes.now) ≡ length c.as_bytes-number.result.now + length c.as_bytes-count.result.now + 2 * length c.args.bytes.now + 3 =
+    rw (number, count) (reply-length a c.args.bytes.now) in
+    let short : length c.args.output.now < length (reply_line a c.args.bytes.now) =
+    elim c.then-output-frame.branch [ then-output-frame-via-then-output-frame w ↦ omega arith | then-output-frame-via-else-output-frame+then-output-frame-2 w ↦ omega arith ] in
+    let p = print_short _ _ short in
+    (sym p.0, sym p.1)
 
 pub returns : goal.returns
 returns c =
-    let a = c.args in
-    let number = c.number-number in
-    let count = c.count-count in
-    let first = c.put_decimal-first in
-    let second = c.put_decimal-second in
-    let line = reply_line (coded a.answer) a.bytes.now in
-    let l = line-length (coded a.answer) a.bytes.now _ _ number.ensures count.ensures in
-    let p = print_fits line a.output.now (omega arith) in
-    let q : second.result + 1 + 2 * length a.bytes.now + 1 ≡ length line = omega arith in (
+    let a = coded c.args.answer in
+    let bytes = c.args.bytes.now in
+    let number : c.as_bytes-number.result.now ≡ decimal a.number = decimal_text _ _ _ (c.as_bytes-number.ensures.value ∙ c.format.ensures.text) (omega arith) c.number.ensures in
+    let count : c.as_bytes-count.result.now ≡ decimal a.count = decimal_text _ _ _ (c.as_bytes-count.ensures.value ∙ c.format-2.ensures.text) (omega arith) c.count.ensures in
+    let n = ap length number in
+    let m = ap length count in
+    let first = c.put-end.ensures in
+    let second = c.put-end-2.ensures in
+    let third = c.put-end-3.ensures in
+    let fourth = c.put-end-4.ensures in
+    let fifth = c.put_hex-end.ensures in
+    let sixth = c.put-end-5.ensures in
+    let q : c.put-end-5.result ≡ length (reply_line a bytes) = omega (arith, n, m, first.1, second.1, third.1, fourth.1, fifth.1, sixth.1, reply-length a bytes) in
+    let p = print_fits (reply_line a bytes) c.args.output.now (omega (arith, n, m, reply-length a bytes)) in (
       ap done q ∙ sym p.0,
-      rw (p.1, c.put_hex.ensures, second.ensures.0, first.ensures.0)
-          (reply_put (coded a.answer) a.bytes.now a.output.now number.result count.result first.result second.result number.ensures count.ensures first.ensures.1 second.ensures.1),
+      rw (p.1, sixth.0, fifth.0, fourth.0, third.0, second.0, first.0, number, count)
+          (reply_put a bytes c.args.output.now _ _ _ _ _ (omega (arith, n, first.1)) second.1 (omega (arith, m, third.1)) fourth.1 fifth.1),
     )

@@ -1,46 +1,48 @@
-use mathlib.Core.Path.{refl, sym, ap}
-use Rattle.answer.specs.declared.Refusal.TheVariants.{Line}
-use Rattle.answer.specs.declared.Answer.TheVariants.{Refused}
-use Rattle.media.specs.Write.{media_of}
-use Rattle.device.specs.Device.{device_of}
+-- `session_run::execute` meets its contract: each case by the call that it makes.
+use Rattle.std.proofs.Common.{refl, sym, ap, arith, ◌∙◌, Some, None}
+use Rattle.memory.proofs.Bytes.{length_front, take-replicate}
 use Rattle.session_run.specs.Session.{run}
-use Rattle.session_run.proofs.Steps.{within_of, executed_without_bytes, executed_read}
+use Rattle.session_run.specs.Steps.{write_buffer}
+use Rattle.session_run.proofs.Steps.{within_of, executed_plain, executed_read, take-write_buffer, length-write_buffer}
 use Rattle.session_run.proofs.execute.Goals as goal
 
-pub write_bytes-requires : goal.write_bytes-requires
-write_bytes-requires c = within_of _ _ c.in-Write.is c.requires
-
-pub read_bytes-requires : goal.read_bytes-requires
-read_bytes-requires c = within_of _ _ c.in-Read.is c.requires
+pub returns-in_default : goal.returns-in_default
+unfolding run
+returns-in_default c = executed_plain _ None c.in_default.is _ _ _ c.args.cache _ _ _ c.from.ensures _ refl refl
 
 pub returns-in-Format : goal.returns-in-Format
 unfolding run
-returns-in-Format c = executed_without_bytes _ _ c.in-Format.is _ _ _ _ _ _ _ _ _ _ _ refl (c.format.ensures c.args.frames.now) c.without_bytes.ensures
+returns-in-Format c = executed_plain _ _ (c.in-Some.is ∙ ap Some c.in-Format.is) _ _ _ c.args.cache _ _ _ c.into.ensures _ (c.format.ensures c.args.frames.now) refl
 
 pub returns-in-Mount : goal.returns-in-Mount
 unfolding run
-returns-in-Mount c = executed_without_bytes _ _ c.in-Mount.is _ _ _ _ _ _ _ _ _ _ _ refl (c.mount.ensures c.args.frames.now) c.without_bytes-in-Mount.ensures
-
-pub returns-in-Write : goal.returns-in-Write
-unfolding run
-returns-in-Write c = executed_without_bytes _ _ c.in-Write.is _ _ _ _ _ _ _ _ _ _ _ refl c.write_bytes.ensures c.without_bytes-in-Write.ensures
+returns-in-Mount c = executed_plain _ _ (c.in-Some.is ∙ ap Some c.in-Mount.is) _ _ _ c.args.cache _ _ _ c.into-in-Mount.ensures _ (c.mount.ensures c.args.frames.now) refl
 
 pub returns-in-Truncate : goal.returns-in-Truncate
 unfolding run
-returns-in-Truncate c = executed_without_bytes _ _ c.in-Truncate.is _ _ _ _ _ _ _ _ _ _ _ refl (cc) c.without_bytes-in-Truncate.ensures
+returns-in-Truncate c = executed_plain _ _ (c.in-Some.is ∙ ap Some c.in-Truncate.is) _ _ _ c.args.cache _ _ _ c.into-in-Truncate.ensures _ (cc) refl
 
 pub returns-in-Sync : goal.returns-in-Sync
 unfolding run
-returns-in-Sync c = executed_without_bytes _ _ c.in-Sync.is _ _ _ _ _ _ _ _ _ _ _ refl (cc) c.without_bytes-in-Sync.ensures
+returns-in-Sync c = executed_plain _ _ (c.in-Some.is ∙ ap Some c.in-Sync.is) _ _ _ c.args.cache _ _ _ c.into-in-Sync.ensures _ (cc) refl
+
+-- the request that a line asks for is within its limits
+pub slice_bounds-write-end : goal.slice_bounds-write-end
+slice_bounds-write-end c =
+    rw c.write_buffer-bytes.ensures
+    (sym (length_front c.in-Write.count (write_buffer c.in-Write.byte) (omega (arith, length-write_buffer c.in-Write.byte, within_of _ _ (c.in-Some.is ∙ ap Some c.in-Write.is) c.requires))))
+
+pub returns-in-Write : goal.returns-in-Write
+unfolding run
+returns-in-Write c =
+    let told = c.in-Some.is ∙ ap Some c.in-Write.is in
+    executed_plain _ _ told _ _ _ c.args.cache _ _ _ c.into-in-Write.ensures _
+    (rw (c.write_buffer-bytes.ensures, take-write_buffer c.in-Write.count c.in-Write.byte (within_of _ _ told c.requires)) at c.write.ensures) refl
 
 pub returns-in-Read : goal.returns-in-Read
 unfolding run
 returns-in-Read c =
-    let a = c.args in
-    let q = c.in-Read.is in
-    let e = c.read_bytes.ensures in
-    executed_read _ _ q _ _ _ _ _ _ _ _ _ _ _ refl (ap (device_of (media_of a.media.now a.sizes.now) a.frames.now) (sym e.1)) (within_of _ _ q c.requires) e.0 e.2
-
-pub returns-in-Malformed : goal.returns-in-Malformed
-unfolding run
-returns-in-Malformed c = executed_without_bytes _ _ c.in-Malformed.is _ _ _ _ _ _ _ _ _ (Refused Line) _ refl refl c.without_bytes-in-Malformed.ensures
+    let told = c.in-Some.is ∙ ap Some c.in-Read.is in
+    let few = within_of _ _ told c.requires in
+    executed_read _ _ told _ _ _ c.args.cache _ _ _ c.in-Read.count _ c.read-outcome.ensures.1 few (rw (take-replicate c.in-Read.count 32 0 few) at c.read-outcome.ensures.0)
+    (c.read-outcome.auto.buffer ∙ length_front _ _ few) refl

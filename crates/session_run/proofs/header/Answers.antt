@@ -1,5 +1,5 @@
 -- `session_run::header` meets its contract: these are its bytes.
-use mathlib.Core.Path.{refl}
+use Rattle.std.proofs.Common.{refl}
 use Rattle.session_line.specs.Reply.{header}
 use Rattle.session_run.proofs.header.Goals as goal
 

@@ -1,5 +1,5 @@
 -- `session_run::write_buffer` meets its contract: they are all that byte.
-use mathlib.Core.Path.{refl}
+use Rattle.std.proofs.Common.{refl}
 use Rattle.session_run.specs.Steps.{write_buffer}
 use Rattle.session_run.proofs.write_buffer.Goals as goal
 

@@ -1,18 +1,6 @@
-use mathlib.Core.Path.{sym, ◌∙◌}
-use native.Mathlib.Omega.{arith}
-use Rattle.state_bytes.proofs.InPlace.{decode_other, floor-read, floor_past}
-use Rattle.memory.proofs.Bytes.{get_or-zeros}
-use Rattle.media.specs.Geometry.{files}
+use mathlib.Core.Path.{◌∙◌}
+use Rattle.state_bytes.proofs.InPlace.{floor_tested}
 use Rattle.state_bytes.proofs.floor_at.Goals as goal
 
-pub returns-then-file-lt-FILES : goal.returns-then-file-lt-FILES
-returns-then-file-lt-FILES c =
-    let a = c.args in c.number_in.ensures ∙ sym (floor-read a.state.now (omega arith) a.file (omega arith))
-
-pub returns-else-file-lt-FILES : goal.returns-else-file-lt-FILES
-returns-else-file-lt-FILES c =
-    let a = c.args in sym (floor_past a.state.now a.file (omega arith))
-
-pub returns-else-state-eq-STATE_BYTES : goal.returns-else-state-eq-STATE_BYTES
-returns-else-state-eq-STATE_BYTES c =
-    let a = c.args in rw (decode_other a.state.now (λ e. omega arith)) (sym (get_or-zeros files a.file))
+pub returns : goal.returns
+returns c = c.size_at.ensures ∙ floor_tested c.args.state.now c.args.file

@@ -1,21 +1,22 @@
-use native.Mathlib.Omega.{arith}
-use lib.ListN.{length}
-use borrow.Author.Tests.{eq-eqb, ne_eqb, lt-ltb, le-ltb}
+-- `state_bytes::set_slot` meets its contract.
+use mathlib.Core.Path.{sym, ◌∙◌}
 use Rattle.device.specs.Device.{slot_count}
-use Rattle.state_bytes.specs.Encoding.{state_bytes, element_set}
+use Rattle.state_bytes.specs.Encoding.{slots_start, slot_bytes}
+use Rattle.state_bytes.proofs.InPlace.{set_here, set_past, set_other}
 use Rattle.state_bytes.proofs.set_slot.Goals as goal
 
 pub returns-then-k-lt-SLOTS : goal.returns-then-k-lt-SLOTS
-unfolding element_set
 returns-then-k-lt-SLOTS c =
-    let a = c.args in rw (eq-eqb (length a.state.now) state_bytes (omega arith), lt-ltb a.k slot_count (omega arith)) c.put_slot.ensures
+    let a = c.args in
+    let w = c.in-Some.ensures.cases in
+    c.put.ensures ∙ rw (w.same, c.slot_bytes.ensures) (set_here slot_bytes slots_start 3 slot_count a.state.now a.k a.s w.long c.if-k-lt-SLOTS.true)
 
 pub returns-else-k-lt-SLOTS : goal.returns-else-k-lt-SLOTS
-unfolding element_set
 returns-else-k-lt-SLOTS c =
-    let a = c.args in rw (eq-eqb (length a.state.now) state_bytes (omega arith), le-ltb a.k slot_count (omega arith))
+    let a = c.args in
+    let w = c.in-Some.ensures.cases in
+    w.same ∙ set_past slot_bytes slots_start 3 slot_count a.state.now a.k a.s w.long c.if-k-lt-SLOTS.false
 
-pub returns-else-state-eq-STATE_BYTES : goal.returns-else-state-eq-STATE_BYTES
-unfolding element_set
-returns-else-state-eq-STATE_BYTES c =
-    let a = c.args in rw (ne_eqb (length a.state.now) state_bytes (λ e. omega arith))
+pub returns-in_default : goal.returns-in_default
+returns-in_default c =
+    let a = c.args in sym (set_other slot_bytes slots_start 3 slot_count a.state.now a.k a.s c.in_default.ensures.cases)

@@ -1,17 +1,20 @@
+-- `state_bytes::slot_at` meets its contract.
 use mathlib.Core.Path.{sym, ◌∙◌}
-use native.Mathlib.Omega.{arith}
-use Rattle.device.specs.Device.{slot_count, free_slot}
-use Rattle.state_bytes.proofs.InPlace.{decode_other, slot_read, slot_past, none_at}
+use Rattle.state_bytes.proofs.InPlace.{slot_read, slot_past, slot_other}
+use Rattle.state_bytes.proofs.slot_at.Goals.{in_default-via-in-Ok+else-k-lt-SLOTS, in_default-via-in_default}
 use Rattle.state_bytes.proofs.slot_at.Goals as goal
 
-pub returns-then-k-lt-SLOTS : goal.returns-then-k-lt-SLOTS
-returns-then-k-lt-SLOTS c =
-    let a = c.args in c.slot_in.ensures ∙ sym (slot_read a.state.now (omega arith) a.k (omega arith))
+pub returns-in-Ok : goal.returns-in-Ok
+returns-in-Ok c =
+    let a = c.args in
+    let w = rw c.in-Ok.is at c.try_from.ensures.1 in
+    c.slot_in.ensures ∙ rw w.same (sym (slot_read a.state.now w.long a.k c.if-k-lt-SLOTS.true))
 
-pub returns-then-state-eq-STATE_BYTES : goal.returns-then-state-eq-STATE_BYTES
-returns-then-state-eq-STATE_BYTES c =
-    let a = c.args in c.free_slot.ensures ∙ sym (slot_past a.state.now a.k (omega arith))
-
-pub returns : goal.returns
-returns c =
-    let a = c.args in c.free_slot-2.ensures ∙ sym (rw (decode_other a.state.now (λ e. omega arith)) (none_at slot_count free_slot a.k))
+pub returns-in_default : goal.returns-in_default
+returns-in_default c =
+    let a = c.args in
+    c.free_slot.ensures
+    ∙ elim c.in_default.branch [
+      | in_default-via-in-Ok+else-k-lt-SLOTS w ↦ sym (slot_past a.state.now a.k w.if-k-lt-SLOTS.false)
+      | in_default-via-in_default w ↦ sym (slot_other a.state.now (rw w.in_default.is at c.try_from.ensures.1) a.k)
+    ]

@@ -1,22 +1,22 @@
 -- `state_bytes::slot_word` meets its contract: a byte is below 256.
 use Prim.Native.Nat.{◌+◌, ◌*◌}
 use native.Mathlib.Omega.{arith}
-use Rattle.device.specs.Device.{slot_count, free_slot}
 use Rattle.state_bytes.specs.Encoding.{slots_start}
-use Rattle.state_bytes.proofs.InPlace.{decode_other, slot_read, slot_past, none_at}
+use Rattle.state_bytes.proofs.InPlace.{slot_read, slot_past, slot_other}
 use Rattle.state_bytes.proofs.slot_word.Goals as goal
 
-pub returns-then-k-lt-SLOTS : goal.returns-then-k-lt-SLOTS
-returns-then-k-lt-SLOTS c =
+pub returns-in-Ok : goal.returns-in-Ok
+returns-in-Ok c =
     let a = c.args in
+    let w = rw c.in-Ok.is at c.try_from.ensures.1 in
     let at = slots_start + 3 * a.k in
     let small = c.type_inv.state in
-    rw (slot_read a.state.now (omega arith) a.k (omega arith), c.number_in.ensures) (omega (arith, small at, small (at + 1), small (at + 2)))
+    rw (slot_read a.state.now w.long a.k c.if-k-lt-SLOTS.true, c.number_in.ensures, w.same) (omega (arith, small at, small (at + 1), small (at + 2)))
 
-pub returns-else-k-lt-SLOTS : goal.returns-else-k-lt-SLOTS
-returns-else-k-lt-SLOTS c =
-    let a = c.args in rw (slot_past a.state.now a.k (omega arith))
+pub returns-in_default : goal.returns-in_default
+returns-in_default c =
+    let a = c.args in rw (slot_past a.state.now a.k c.if-k-lt-SLOTS.false)
 
-pub returns-else-state-eq-STATE_BYTES : goal.returns-else-state-eq-STATE_BYTES
-returns-else-state-eq-STATE_BYTES c =
-    let a = c.args in rw (decode_other a.state.now (λ e. omega arith), none_at slot_count free_slot a.k)
+pub returns-in_default-2 : goal.returns-in_default-2
+returns-in_default-2 c =
+    let a = c.args in rw (slot_other a.state.now (rw c.in_default.is at c.try_from.ensures.1) a.k)

@@ -1,27 +1,21 @@
-use Rattle.std.proofs.Common.{sym, ◌∙◌, arith}
-use Rattle.words.specs.Words.{eight_or_none, first_eight}
-use Rattle.trip_list.specs.Trip.{is_driver_byte}
-use Rattle.text.proofs.Runs.{passed_first, passed-next}
-use Rattle.trip_list.proofs.Runs.{nothing_read, letters_end, letters-none, letters_many, letters-read}
+-- `trip_list::driver_in_front` meets its contract.
+use Rattle.std.proofs.Common.{sym, ◌∙◌}
+use Rattle.memory.proofs.Bytes.{rest-whole}
+use Rattle.trip_list.proofs.Runs.{letters-within, no_driver-end, driver-read}
 use Rattle.trip_list.proofs.driver_in_front.Goals as goal
 
-pub loop-i-init : goal.loop-i-init
-unfolding is_driver_byte first_eight
-loop-i-init c =
-    let s = c.args.text.now in rw c.letters-i.ensures (passed_first is_driver_byte (eight_or_none s) s)
+pub slice_bounds-driver_end-count : goal.slice_bounds-driver_end-count
+slice_bounds-driver_end-count c = letters-within _ _ c.letters-front.ensures
 
-pub loop-i-preserved : goal.loop-i-preserved
-loop-i-preserved c = passed-next is_driver_byte _ _ c.loop-i.invariant (omega arith) (sym c.is_driver_byte.ensures ∙ c.if-is_driver_byte.true)
+pub slice_bounds-driver_end-start : goal.slice_bounds-driver_end-start
+slice_bounds-driver_end-start c = letters-within _ _ c.letters-front.ensures
 
-pub returns-then-i-lt1 : goal.returns-then-i-lt1
-returns-then-i-lt1 c = nothing_read (letters-none _ _ c.loop-i.invariant (omega arith) (sym c.is_driver_byte.ensures ∙ c.if-is_driver_byte.false) (omega arith))
-
-pub returns-then-i-gt16 : goal.returns-then-i-gt16
-returns-then-i-gt16 c = nothing_read (letters_many _ _ c.loop-i.invariant (omega arith) (sym c.is_driver_byte.ensures ∙ c.if-is_driver_byte.false) (omega arith))
-
-pub returns-else-is_driver_byte : goal.returns-else-is_driver_byte
-returns-else-is_driver_byte c =
-    letters-read _ _ c.loop-i.invariant (omega arith) (sym c.is_driver_byte.ensures ∙ c.if-is_driver_byte.false) (omega arith) (omega arith)
+pub returns-in_err-letters : goal.returns-in_err-letters
+returns-in_err-letters c =
+    let s = c.args.text.now in
+    rw c.from_residual.ensures (no_driver-end s _ c.letters-front.ensures _ (rest-whole _ s) (sym c.driver_end.ensures ∙ c.in_err-letters.was))
 
 pub returns : goal.returns
-returns c = nothing_read (letters_end _ _ c.loop-i.invariant (omega arith))
+returns c =
+    let s = c.args.text.now in
+    rw c.then_some.ensures (driver-read s _ c.letters-front.ensures _ (rest-whole _ s) _ (sym c.driver_end.ensures ∙ c.in_ok-letters.was) _ c.driver_ends.ensures)

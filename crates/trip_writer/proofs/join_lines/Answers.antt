@@ -1,24 +1,15 @@
-use mathlib.Core.Path.{refl}
+use mathlib.Core.Path.{refl, sym, ◌∙◌}
 use native.Mathlib.Omega.{arith}
-use Rattle.trip_writer.proofs.Joining.{joining_start}
+use Rattle.trip_writer.proofs.Joining.{joining_start, joining_own, first_some, second_some}
 use Rattle.trip_writer.proofs.join_lines.Goals as goal
+use Rattle.trip_writer.proofs.join_lines.Goals.{then-is_some, else-is_some+then-is_some-2}
 
-pub loop-output-init : goal.loop-output-init
-loop-output-init c = (joining_start _ _ _ _ _ c.head-a.ensures c.head-b.ensures (omega arith) (omega arith) (omega arith), refl)
+pub loop-s-init : goal.loop-s-init
+loop-s-init c = (joining_start _ _ _ _ _ c.new.ensures c.new-2.ensures (omega arith) (omega arith) (omega arith), refl)
 
 pub join_next-s-requires : goal.join_next-s-requires
-join_next-s-requires c = (c.loop-output.invariant.0, omega (arith, c.next_minute.ensures))
-
-pub loop-output-smaller : goal.loop-output-smaller
-loop-output-smaller c =
-    let e = c.join_next-s.ensures in omega (arith, e.1, e.0.first.within, e.0.second.within)
-
-pub loop-output-preserved : goal.loop-output-preserved
-loop-output-preserved c =
-    let p = c.join_next-s in (p.ensures.0, omega (arith, p.auto, c.loop-output.invariant.1))
-
-pub shape_of-output : goal.shape_of-output
-shape_of-output c = omega (arith, c.loop-output.invariant.1)
-
-pub returns : goal.returns
-returns c = (c.loop-output.invariant.0, omega (arith, c.next_minute.ensures))
+join_next-s-requires c =
+    let w = c.loop-s.invariant.0 in (
+      joining_own _ _ _ _ w,
+      elim c.if-is_some.branch [ then-is_some o ↦ first_some _ _ _ _ w (sym c.is_some.ensures ∙ o.if-is_some.true) | else-is_some+then-is_some-2 o ↦ second_some _ _ _ _ w (sym o.is_some-else-is_some.ensures ∙ o.if-is_some-2.true) ],
+    )

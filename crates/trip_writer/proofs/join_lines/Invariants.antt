@@ -5,8 +5,8 @@ use lib.ListN.{length}
 use Rattle.trip_writer.specs.Joining.{Joining}
 use Rattle.trip_writer.proofs.join_lines.Given as goal
 
-abbrev pub invariant-loop-output : goal.invariant-loop-output
-invariant-loop-output l = Joining l.first l.second l.output l.s × (length l.output ≡ length l.initial.output)
+abbrev pub invariant-loop-s : goal.invariant-loop-s
+invariant-loop-s l = Joining l.fn.first l.fn.second l.output l.s × (length l.output ≡ length l.initial.output)
 
-abbrev pub decreases-loop-output : goal.decreases-loop-output
-decreases-loop-output l = length l.first + length l.second - (l.s.i + l.s.j)
+abbrev pub decreases-loop-s : goal.decreases-loop-s
+decreases-loop-s l = length l.fn.first + length l.fn.second - (l.s.first.at + l.s.second.at)

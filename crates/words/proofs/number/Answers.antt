@@ -1,34 +1,24 @@
 -- `words::number` meets its contract.
-use Rattle.std.proofs.Common.{◌≡◌, ℕ, ◌≤◌, List, take, refl, ap, ◌∙◌, arith}
+use Rattle.std.proofs.Common.{◌≡◌, ℕ, ◌≤◌, List, ap, ◌∙◌, arith}
 use Rattle.text.specs.Decimal.{is_digit}
 use Rattle.text.specs.Runs.{run}
 use Rattle.text.proofs.Runs.{first-few}
-use Rattle.words.proofs.Texts.{run_short, run_long, value_in-front}
+use Rattle.words.specs.Words.{bytes_of, first_eight}
+use Rattle.words.proofs.Texts.{word_bytes, value_in-front}
 use Rattle.words.proofs.number.Goals as goal
 
 -- so many digits stand in front of the first eight bytes, at most eight
-module _ (s bytes : List ℕ) (n : ℕ) (e : n ≡ run is_digit bytes) (w : bytes ≡ take 8 s) where
-  digits : n ≡ run is_digit (take 8 s)
-  digits = e ∙ ap (run is_digit) w
-
-  few : n ≤ 8
-  few = omega (arith, digits, first-few is_digit 8 s)
-
-pub returns-then-text-lt-BYTES : goal.returns-then-text-lt-BYTES
-returns-then-text-lt-BYTES c = (run_short is_digit _ (omega arith), refl)
-
-pub returns-then-count-lt1 : goal.returns-then-count-lt1
-returns-then-count-lt1 c =
-    let e : c.digits_in-count.result ≡ 0 = omega arith in
-    (digits _ _ _ c.digits_in-count.ensures c.gather-word.ensures ∙ run_long is_digit _ (omega arith), rw e)
+few : (s : List ℕ) (word n : ℕ) → bytes_of word ≡ first_eight s → n ≡ run is_digit (bytes_of word) → n ≤ 8
+few s word n w e = omega (arith, e, ap (run is_digit) (word_bytes s word w), first-few is_digit 8 s)
 
 pub overflow_mul-count : goal.overflow_mul-count
-overflow_mul-count c = omega (arith, few _ _ _ c.digits_in-count.ensures c.gather-word.ensures)
+overflow_mul-count c = omega (arith, few _ _ _ c.in-Some.ensures c.digits_in-count.ensures)
 
 pub overflow_sub-count : goal.overflow_sub-count
-overflow_sub-count c = omega (arith, few _ _ _ c.digits_in-count.ensures c.gather-word.ensures)
+overflow_sub-count c = omega (arith, few _ _ _ c.in-Some.ensures c.digits_in-count.ensures)
 
 pub returns : goal.returns
 returns c =
-    let d = digits _ _ _ c.digits_in-count.ensures c.gather-word.ensures in
-    (d ∙ run_long is_digit _ (omega arith), c.value_in.ensures ∙ value_in-front _ _ _ c.gather-word.ensures d)
+    let w = word_bytes _ _ c.in-Some.ensures in
+    let d = c.digits_in-count.ensures in
+    (d ∙ ap (run is_digit) c.in-Some.ensures, c.value_in.ensures ∙ value_in-front _ _ _ w (d ∙ ap (run is_digit) w))

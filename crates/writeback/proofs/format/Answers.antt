@@ -1,52 +1,58 @@
 -- `writeback::format` meets its contract: the admission decides, then the budget.
-use mathlib.Core.Path.{◌≡◌, refl, ap, ◌∙◌}
-use mathlib.Core.Bool.{true}
-use mathlib.Core.List.{List, [], ◌++◌}
-use Prim.Native.Nat.{ℕ}
+use mathlib.Core.Path.{refl, ap, ◌∙◌}
+use mathlib.Core.List.{[]}
 use native.Mathlib.Omega.{arith}
-use lib.ListN.{length}
-use Rattle.answer.specs.declared.Answer.{Answer}
-use Rattle.answer.specs.declared.Answer.TheVariants.{Done}
-use Rattle.answer.specs.Coded.{coded, done}
-use Rattle.answer.specs.Admission.{first_refusal}
-use Rattle.answer.proofs.Coded.{coded_of}
-use Rattle.answer.proofs.Admission.{passed}
+use Rattle.std.proofs.lemmas.Result.{err_from_is_err_and}
 use Rattle.memory.proofs.Bytes.{get_or-zeros}
 use Rattle.media.specs.Geometry.{files, pages_per_file}
-use Rattle.media.specs.Write.{Media, media_of}
+use Rattle.media.specs.Write.{media_of}
 use Rattle.device.specs.Device.{device_of}
 use Rattle.device.specs.Admission.{media_shape}
 use Rattle.device.specs.Mounting.{format}
-use Rattle.device.proofs.Admission.{admit-refused, shape-refusing, shape_admitted}
-use Rattle.state_bytes.specs.Encoding.{state_bytes, decode}
-use Rattle.state_bytes.specs.InPlace.{state_shape, in_bytes}
+use Rattle.device.proofs.Admission.{admit-refused, shape_admitted}
+use Rattle.state_bytes.specs.Encoding.{decode}
+use Rattle.state_bytes.specs.InPlace.{in_bytes}
 use Rattle.state_bytes.proofs.Inverse.{are_bytes_lem}
-use Rattle.state_bytes.proofs.OnBytes.{shape-passed, refused_on, length_on}
-use Rattle.writeback.proofs.Ends.{format_ends}
+use Rattle.state_bytes.proofs.OnBytes.{refused_on, length_on}
+use Rattle.writeback.proofs.Ends.{format_tested, format_ends, whole_mut}
 use Rattle.writeback.proofs.format.Goals as goal
 
--- what `admit_format` has tested
-tested : (m : Media) (state : List ℕ) (a : Answer) (n : ℕ) → coded a ≡ first_refusal (state_shape state ++ media_shape pages_per_file m) (done 0) → a ≡ Done n
-    → (length state ≡ state_bytes) × (passed (media_shape pages_per_file m) ≡ true)
-tested m state a n = shape-passed state (media_shape pages_per_file m) a n (shape-refusing pages_per_file (device_of m [] (decode state)))
-
-pub trim_files-trims-requires : goal.trim_files-trims-requires
-trim_files-trims-requires c =
-    let ok = shape_admitted pages_per_file (device_of (media_of c.args.media.now c.args.sizes.now) [] (decode c.args.state.now)) (tested _ _ _ _ (c.admit_format-admitted.ensures _ refl) c.in-Done.is).1 in
-    (ok.0, ok.1, λ f hf. rw (get_or-zeros files f) (omega arith, omega arith))
-
-pub finish-requires : goal.finish-requires
-finish-requires c = (tested _ _ _ _ (c.admit_format-admitted.ensures _ refl) c.in-Done.is).0
-
-pub returns-in-Refused : goal.returns-in-Refused
+pub returns-in_err-admit_format : goal.returns-in_err-admit_format
 unfolding format
-returns-in-Refused c =
-    λ frames. refused_on (format pages_per_file c.args.budget) _ _ _ (coded_of _ _ _ c.in-Refused.is (c.admit_format-admitted.ensures _ refl))
-    (are_bytes_lem _ c.slice_known-3-1.given) (admit-refused (media_shape pages_per_file _) _ _ _)
+returns-in_err-admit_format c =
+    let p = err_from_is_err_and c.from_residual.result c.from_residual.ensures.1 in
+    let e = rw c.in_err-admit_format.was at (c.admit_format.ensures c.args.media.now refl) in
+    rw (p.1, p.2)
+    (λ frames. refused_on (format pages_per_file c.args.budget) _ _ _ e (are_bytes_lem _ c.slice_known-3-1.given) (admit-refused (media_shape pages_per_file _) _ _ _))
 
-pub returns-in-Done : goal.returns-in-Done
-returns-in-Done c = λ frames.
-    let ok = tested _ _ _ _ (c.admit_format-admitted.ensures _ refl) c.in-Done.is in
+pub unwrap-media-requires : goal.unwrap-media-requires
+unwrap-media-requires c =
+    let m = media_of c.args.media.now c.args.sizes.now in
+    let t = format_tested pages_per_file m c.args.state.now (rw c.in_ok-admit_format.was at (c.admit_format.ensures c.args.media.now refl)) in
+    c.as_mut_array.ensures.variant.1 (shape_admitted pages_per_file (device_of m [] (decode c.args.state.now)) t.1).0
+
+pub unwrap-sizes-requires : goal.unwrap-sizes-requires
+unwrap-sizes-requires c =
+    let m = media_of c.args.media.now c.args.sizes.now in
+    let t = format_tested pages_per_file m c.args.state.now (rw c.in_ok-admit_format.was at (c.admit_format.ensures c.args.media.now refl)) in
+    c.as_mut_array-2.ensures.variant.1 (shape_admitted pages_per_file (device_of m [] (decode c.args.state.now)) t.1).1
+
+pub unwrap-state-requires : goal.unwrap-state-requires
+unwrap-state-requires c =
+    let m = media_of c.args.media.now c.args.sizes.now in
+    c.as_mut_array-3.ensures.variant.1 (format_tested pages_per_file m c.args.state.now (rw c.in_ok-admit_format.was at (c.admit_format.ensures c.args.media.now refl))).0
+
+pub trim_files-needed-requires : goal.trim_files-needed-requires
+trim_files-needed-requires c = λ f hf. rw (get_or-zeros files f) (omega arith, omega arith)
+
+pub returns : goal.returns
+returns c =
+    let m = media_of c.args.media.now c.args.sizes.now in
+    let t = format_tested pages_per_file m c.args.state.now (rw c.in_ok-admit_format.was at (c.admit_format.ensures c.args.media.now refl)) in
+    let same_media = whole_mut _ c.as_mut_array.ensures.cases c.unwrap-media.ensures in
+    let same_sizes = whole_mut _ c.as_mut_array-2.ensures.cases c.unwrap-sizes.ensures in
+    let spent = rw (same_media, same_sizes) at c.trim_files-needed.ensures in
+    λ frames.
     c.finish.ensures _ frames
-    ∙ rw c.down_state.ensures (ap in_bytes (format_ends pages_per_file c.args.budget _ _ _ c.trim_files-trims.ensures ok.1))
-    ∙ length_on (format pages_per_file c.args.budget) _ ok.0
+    ∙ rw c.down_state.ensures (ap in_bytes (format_ends pages_per_file c.args.budget (device_of m frames (decode c.args.state.now)) _ _ spent t.1))
+    ∙ length_on (format pages_per_file c.args.budget) _ t.0

@@ -18,7 +18,7 @@ unfolding file_start
 returns c =
     let a = c.args in
     let start : ℕ = page_start a.pages a.file a.number in
-    let first : ℕ = frame_start a.k in
+    let first : ℕ = frame_start a.slot in
     let bytes : List ℕ = part a.frames.now first page_bytes in
     let n : start + page_bytes - start ≡ page_bytes = omega arith in
     let k : first + page_bytes - first ≡ page_bytes = omega arith in

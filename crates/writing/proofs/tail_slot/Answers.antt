@@ -8,9 +8,10 @@ use Rattle.writing.proofs.Tails.{tail_gone, tail_stays}
 use Rattle.writing.proofs.tail_slot.Goals as goal
 
 pub returns-then-n-eq0 : goal.returns-then-n-eq0
-returns-then-n-eq0 c = λ s l e. tail_gone c.args.file c.args.n s.slots l c.if-n-eq0.true
+returns-then-n-eq0 c = λ s l e h. omega (arith, h, tail_gone c.args.file c.args.n s.slots l c.if-n-eq0.true)
 
 pub returns : goal.returns
 returns c =
     let a = c.args in
-    λ s l e. c.slot_of.ensures ∙ slot_for_lem s.slots _ a.file (a.n / page_bytes) e (omega arith) (omega arith) ∙ tail_stays a.file a.n s.slots c.if-n-eq0.false
+    λ s l e. let q = slot_for_lem s.slots _ a.file (a.n / page_bytes) e (omega arith) (omega arith) ∙ tail_stays a.file a.n s.slots c.if-n-eq0.false in
+    rw q at c.slot_of.ensures
