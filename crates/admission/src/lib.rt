@@ -214,7 +214,7 @@ impl SlotTable {
         seen == SLOTS
     }
 
-    // Eight slots from slot k on, in turn.
+    // Eight slots from slot k on, in turn. (A truth value, as of `enter_slot`; so of the next two.)
     fn enter_eight(&mut self, state: &[u8; STATE_BYTES], k: usize) -> bool
         requires { (k + 8 ≤ slot_count) × Passed state.now self.old.slots k }
         ensures { (result ≡ true → Passed state.now self.new.slots (k + 8))

@@ -22,7 +22,7 @@ pub struct Slot {
     pub page: u8,
 }
 
-// The cache state (document 01: the books).
+// The cache state (document 01: the books). The sizes are two arrays, as in the definitions and in the bytes of the state.
 #[derive(Clone, Copy, Debug, PartialEq, Eq)]
 pub struct CacheState {
     // 1 where the device is mounted, 0 where it is down (the up mark).
@@ -42,7 +42,8 @@ pub struct FileSizes {
     pub stored: u32,
 }
 
-// Where a part lies: in the page frames where it is cached, else in the media, from an index on, so many bytes.
+// Where a part lies, in the numbers of the C interface: in the page frames where it is cached, else in the media, from an index on, so
+// many bytes.
 #[derive(Clone, Copy, Debug, PartialEq, Eq)]
 pub struct Span {
     pub cached: bool,

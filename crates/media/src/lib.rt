@@ -103,7 +103,7 @@ fn trim_in(
     Ok(0)
 }
 
-// The bytes of one file from n on become 0.
+// The bytes of one file from n on become 0. The media is a slice: its length goes by the number of pages.
 fn clear_from(media: &mut [u8], file: usize, n: usize, pages: Pages)
     requires { (length media.old ≡ media_bytes pages.count) × (file < files) × (n ≤ file_bytes pages.count) }
     ensures { media.new ≡ overwrite media.old (file_start pages.count file + n) (zeros (file_bytes pages.count - n)) }

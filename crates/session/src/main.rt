@@ -75,7 +75,7 @@ fn serve_block<R: Read, W: Write, E: Eprint>(
     }
 }
 
-// Runs blocks until the input ends, on media that are all 0. A proved loop has to end, and nothing says that the input does: so it
+// Runs blocks until the input ends, on media that are all 0, lent as in `serve_block`. A proved loop has to end, and nothing says that the input does: so it
 // makes as many turns as no run uses up.
 fn run<R: Read, W: Write, E: Eprint>(
     media: &mut [u8],

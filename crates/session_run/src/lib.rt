@@ -31,7 +31,7 @@ const GREATEST_WRITE: usize = 4096;
 
 const GREATEST_READ: usize = 32;
 
-// The line that has not ended yet. A caller may make one of any `len`, so no ghost field bounds it.
+// The line that has not ended yet, in fixed memory. A caller may make one of any `len`, so no ghost field bounds it.
 #[derive(Clone, Copy)]
 pub struct PartialLine {
     pub bytes: [u8; KEPT_BYTES],

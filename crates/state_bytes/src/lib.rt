@@ -26,7 +26,7 @@ const FLOOR_START: usize = 105;
 
 type State = [u8; STATE_BYTES];
 
-// The bytes are laid over the state from an index on.
+// The bytes are laid over the state from an index on. (For memory of any length it would be this line too.)
 fn put(state: &mut State, at: usize, bytes: &[u8])
     requires { at + length bytes.now ≤ state_bytes }
     ensures { state.new ≡ overwrite state.old at bytes.now }

@@ -136,7 +136,7 @@ pub fn line_at(list: &[u8], at: usize, least: usize) -> Result<Line, Refusal>
 
 // ---- the cursor
 
-// A trip of a list. Its driver lies in the list: from this index on, so many bytes.
+// A trip of a list, in numbers, as C gets it. Its driver lies in the list: from this index on, so many bytes.
 #[derive(Clone, Copy)]
 pub struct Trip {
     pub minute: u32,

@@ -91,7 +91,7 @@ impl<'a> Side<'a> {
         Side::new(self.list, self.at + line.length, line.minute + 1)
     }
 
-    // The minute of its next line, or one above all others.
+    // The minute of its next line, or one above all others: a limit, which an Option would put below all.
     fn minute(self) -> usize
         ensures { result ≡ minute_of self.entry.line }
     {
@@ -179,7 +179,8 @@ fn same_rest(first: Side, a: Line, second: Side, b: Line) -> bool
     a.metres == b.metres && first.driver(a) == second.driver(b)
 }
 
-// How far two lists are joined: how many bytes the joined list has up to there, and whether the lists agree up to there.
+// How far two lists are joined: how many bytes the joined list has up to there, and whether the lists agree up to there. The bytes are
+// counted on where they do not.
 #[derive(Clone, Copy)]
 struct Stage<'a> {
     first: Side<'a>,

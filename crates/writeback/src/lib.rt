@@ -55,7 +55,7 @@ impl Budget {
     }
 }
 
-// PAGE: the bytes of a slot replace one page of the media.
+// PAGE: the bytes of a slot replace one page of the media, which is a slice: its length goes by the number of pages.
 fn write_frame(
     media: &mut [u8],
     frames: &[u8; FRAMES_BYTES],
@@ -277,7 +277,7 @@ pub fn mount(
     finish(state, needed, budget, admission::mounted_state(found))
 }
 
-// Format: empties all files, by TRIM to 0. The device is down after it, done or cut. Of the state that comes in only the length is
+// Format: empties all files, by TRIM to 0. It is a mount but for its tests, its targets and the state that it leaves. The device is down after it, done or cut. Of the state that comes in only the length is
 // looked at.
 pub fn format(
     media: &mut [u8],

@@ -31,7 +31,7 @@ use state_bytes::STATE_BYTES;
 // The length of the page frames.
 const FRAMES_BYTES: usize = SLOTS * PAGE_BYTES;
 
-// The bytes are laid over the page frames from `at` on.
+// The bytes are laid over the page frames from `at` on, by blocks, for their speed.
 fn patch_frames(frames: &mut [u8; FRAMES_BYTES], at: usize, bytes: &[u8])
     requires { at + length bytes.now ≤ frames_bytes }
     ensures { frames.new ≡ overwrite frames.old at bytes.now }
