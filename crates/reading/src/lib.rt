@@ -77,7 +77,6 @@ impl Source<'_> {
         ensures { (d : Device) → Shows self.now d → buffer.new ≡ current_bytes pages_per_file d self.now.file position (length buffer.old) }
     {
         let count = buffer.len();
-        let end_page = (position + count).div_ceil(PAGE_BYTES);
         let mut i = 0;
         // A run of pages is of any length, so no iterator steps over the buffer.
         while i < count {
@@ -90,6 +89,7 @@ impl Source<'_> {
                     i = to;
                 }
                 None => {
+                    let end_page = (position + count).div_ceil(PAGE_BYTES);
                     let stop = self.cached_from(page + 1, end_page);
                     let to = count.min(PAGE_BYTES * stop - position);
                     self.read_stored(at, &mut buffer[i..to]);

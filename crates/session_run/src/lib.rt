@@ -4,12 +4,13 @@
 // and come back. Start with `start`, print `header`, hand each block to `feed`, and at the end of the input call `finish`.
 #![tactic(auto)]
 
-ghost use Rattle.std.specs.Prelude.{◌≡◌, ◌≤◌, length, None, IfSome};
+ghost use Rattle.std.specs.Prelude.{◌≡◌, ◌≤◌, length, replicate, None, IfSome};
 ghost use Rattle.answer.specs.Coded.{coded};
 ghost use Rattle.media.specs.Geometry.{pages_per_file};
 ghost use Rattle.device.specs.Device.{down_state};
 ghost use Rattle.device.specs.Admission.{give};
-ghost use Rattle.session_line.specs.Grammar.{greatest_read};
+ghost use Rattle.device.specs.Writing.{write};
+ghost use Rattle.session_line.specs.Grammar.{greatest_write, greatest_read};
 ghost use Rattle.session_line.specs.Request.{spelled};
 ghost use Rattle.session_line.specs.Reply.{header};
 ghost use Rattle.session_line.specs.Parser.{Within};
@@ -110,6 +111,25 @@ fn write_buffer(byte: u8) -> [u8; GREATEST_WRITE]
     [byte; GREATEST_WRITE]
 }
 
+// A write of bytes of one value. A function of its own: one clears the arrays that it has as it is entered, and this array is long.
+fn write_bytes(
+    media: &[u8],
+    sizes: &[u32],
+    frames: &mut [u8],
+    cache: CacheState,
+    file: usize,
+    position: usize,
+    count: usize,
+    byte: u8,
+) -> Outcome
+    requires { count ≤ greatest_write }
+    ensures { give (coded result.answer) (device_at_exit media.now sizes.now frames.new result.cache)
+        ≡ write pages_per_file file position (replicate count byte) (device_at_entry media.now sizes.now frames.old cache) }
+{
+    let bytes = write_buffer(byte);
+    cache::write(media, sizes, frames, cache, file, position, &bytes[..count])
+}
+
 // The call that a line asks for; LINE where it asks for none. It borrows the media, the stored sizes and the frames apart, as the public
 // calls do.
 fn execute(
@@ -135,10 +155,7 @@ fn execute(
             position,
             count,
             byte,
-        } => {
-            let bytes = write_buffer(byte);
-            cache::write(media, sizes, frames, cache, file, position, &bytes[..count]).into()
-        }
+        } => write_bytes(media, sizes, frames, cache, file, position, count, byte).into(),
         Request::Truncate { file, size } => {
             cache::truncate(media, sizes, frames, cache, file, size).into()
         }

@@ -7,7 +7,6 @@ use Prim.Native.Nat.{ℕ, zero, suc, ◌+◌, ◌*◌, ◌<◌, ◌≤◌}
 use native.Mathlib.Nat.{add_assoc, add-zero}
 use native.Mathlib.Omega.{arith}
 use lib.Dec.{eqb, leb}
-use lib.Bits.{bit_or}
 use lib.ListN.{length, get_or}
 use borrow.Author.Tests.{eq-eqb, ne_eqb, eqb-true, leb-true, le-leb, lt-leb}
 use borrow.Table.Steps.{cases}
@@ -16,7 +15,6 @@ use Rattle.memory.proofs.Bytes.{length_part, get_d_part}
 use Rattle.memory.proofs.Cases.{split_eq}
 use Rattle.scan.specs.Scan.{every}
 use Rattle.scan.proofs.Scan.{and_left, and_right, and_assoc, is_false, true-not-false, every_below_at, every_below_all, every_at, every_all}
-use Rattle.scan.proofs.Zeros.{zero_or}
 use Rattle.device.specs.Device.{slot_count}
 use Rattle.state_bytes.specs.Encoding.{state_bytes, slots_start, number_in, zeros_from, slots_zero}
 
@@ -69,12 +67,11 @@ module _ (bytes : List ℕ) (a : ℕ) where
       ap (λ (i : ℕ). zeros_from bytes i 8) (sym (add-zero a)) ∙ zeros-number bytes a 0 8 ∙ ap (λ (m : ℕ). eqb m 0) (sym e)
 
 -- three words
-pub zeros-three : (bytes : List ℕ) (a : ℕ) → eqb (bit_or (bit_or (word bytes a) (word bytes (a + 8))) (word bytes (a + 16))) 0 ≡ zeros_from bytes a 24
+pub zeros-three : (bytes : List ℕ) (a : ℕ) → eqb (word bytes a) 0 && (eqb (word bytes (a + 8)) 0 && eqb (word bytes (a + 16)) 0) ≡ zeros_from bytes a 24
 zeros-three bytes a =
     sym
     (zeros-join bytes a 8 16
-    ∙ rw (zeros-word bytes a, zeros-join bytes (a + 8) 8 8, zeros-word bytes (a + 8), add_assoc a 8 8, zeros-word bytes (a + 16), zero_or, zero_or)
-    (and_assoc (eqb (word bytes a) 0) (eqb (word bytes (a + 8)) 0) (eqb (word bytes (a + 16)) 0)))
+    ∙ rw (zeros-word bytes a, zeros-join bytes (a + 8) 8 8, zeros-word bytes (a + 8), add_assoc a 8 8, zeros-word bytes (a + 16)))
 
 -- ---- a part, and slots
 
@@ -112,3 +109,9 @@ unfolding slots_zero
 slots_zero_at bytes k n e =
     let r = and_right (eqb (length bytes) state_bytes) _ e in
     (eqb-true _ _ (and_left (eqb (length bytes) state_bytes) _ e), leb-true _ _ (and_left (leb (k + n) slot_count) _ r), zeros_at bytes (slots_start + 3 * k) (3 * n) (and_right (leb (k + n) slot_count) _ r))
+
+-- eight of them, by three words
+pub three_words : (bytes : List ℕ) (k x y z : ℕ) → length bytes ≡ state_bytes → k + 8 ≤ slot_count
+    → x ≡ word bytes (slots_start + 3 * k) → y ≡ word bytes (slots_start + 3 * k + 8) → z ≡ word bytes (slots_start + 3 * k + 16)
+    → eqb x 0 && (eqb y 0 && eqb z 0) ≡ slots_zero bytes k 8
+three_words bytes k x y z e h ex ey ez = rw (ex, ey, ez) (zeros-three bytes (slots_start + 3 * k) ∙ slots_tested bytes k 8 e h)

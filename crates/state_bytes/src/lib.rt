@@ -56,7 +56,9 @@ fn number_bytes(n: u32) -> [u8; 4]
     n.to_le_bytes()
 }
 
-// The buffer becomes the bytes of the state. One of another length stays as it is.
+// The buffer becomes the bytes of the state. One of another length stays as it is. Where the state is known, as the down state is, few
+// moves are left of it, so it is inlined.
+#[inline]
 pub fn encode(cache: CacheState, state: &mut [u8])
     ensures { state.new ≡ encoded cache state.old }
 {
@@ -209,14 +211,14 @@ fn word_in(state: &State, at: usize) -> u64
 }
 
 // Whether the bytes of eight slots from slot k on are 0: all of them are free. False where there are not as many.
-// By three words, since a scan of so few bytes takes twice the time.
+// By three words, since a scan of so few bytes takes twice the time. Where the first slots are taken, the first word tells.
 pub fn eight_free(state: &[u8], k: usize) -> bool
     ensures { result ≡ slots_zero state.now k 8 }
 {
     match <&State>::try_from(state) {
         Ok(state) if k <= device::SLOTS - 8 => {
             let at = SLOTS_START + 3 * k;
-            word_in(state, at) | word_in(state, at + 8) | word_in(state, at + 16) == 0
+            word_in(state, at) == 0 && word_in(state, at + 8) == 0 && word_in(state, at + 16) == 0
         }
         _ => false,
     }

@@ -36,6 +36,8 @@ fn number_ends(value: usize, digits: usize, mark: u8) -> bool
     digits >= 1 && value <= MAX_NUMBER && mark == b','
 }
 
+// Apart, as `driver_in_front` is: inlined, its loop keeps count of more numbers, and reading a line takes a tenth longer.
+#[inline(never)]
 fn number_in_front(text: &[u8]) -> Option<Number>
     ensures { NumberRead text.now result }
 {
@@ -77,6 +79,7 @@ fn driver_ends(letters: usize, mark: u8) -> bool
 }
 
 // The number of letters of a driver in front of a text, with LF after it.
+#[inline(never)]
 fn driver_in_front(text: &[u8]) -> Option<usize>
     ensures { DriverRead text.now result }
 {

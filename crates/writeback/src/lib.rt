@@ -240,6 +240,8 @@ fn trim_files(
 }
 
 // The end of a mount or a format that needed so many media writes: done with their number, and the bytes of this state; or CUT.
+// Inlined, as `encode` is: what is known of the state stays known.
+#[inline(always)]
 fn finish(
     state: &mut [u8; STATE_BYTES],
     needed: usize,

@@ -198,11 +198,11 @@ fn put_bytes(
     parts.put_pages(table, file, position, bytes)
 }
 
-// Whether position + n is at most the limit, the sum taken exactly.
+// Whether position + n is at most the limit. No sum is made.
 fn sum_fits(position: usize, n: usize, limit: usize) -> bool
     ensures { result ≡ leb (position + n) limit }
 {
-    position.checked_add(n).is_some_and(|end| end <= limit)
+    n <= limit && position <= limit - n
 }
 
 // File `file` is at least n bytes long.
@@ -371,7 +371,7 @@ pub fn truncate_sizes(s: &mut FileSizes, n: usize, greatest: u32) -> Result<usiz
     ensures { (coded result ≡ sizes_answer greatest n s.old)
         × (s.new ≡ sizes_after greatest n s.old) }
 {
-    let count = sizes_answer(*s, n, greatest)?;
-    *s = truncated_sizes(*s, n as u32);
-    Ok(count)
+    let answer = sizes_answer(*s, n, greatest);
+    *s = sizes_after(*s, n, greatest);
+    answer
 }

@@ -1,9 +1,8 @@
 -- `session_run::execute` meets its contract: each case by the call that it makes.
-use Rattle.std.proofs.Common.{refl, sym, ap, arith, ◌∙◌, Some, None}
+use Rattle.std.proofs.Common.{refl, ap, ◌∙◌, Some, None}
 use Rattle.memory.proofs.Bytes.{length_front, take-replicate}
 use Rattle.session_run.specs.Session.{run}
-use Rattle.session_run.specs.Steps.{write_buffer}
-use Rattle.session_run.proofs.Steps.{within_of, executed_plain, executed_read, take-write_buffer, length-write_buffer}
+use Rattle.session_run.proofs.Steps.{within_of, executed_plain, executed_read}
 use Rattle.session_run.proofs.execute.Goals as goal
 
 pub returns-in_default : goal.returns-in_default
@@ -27,17 +26,12 @@ unfolding run
 returns-in-Sync c = executed_plain _ _ (c.in-Some.is ∙ ap Some c.in-Sync.is) _ _ _ c.args.cache _ _ _ c.into-in-Sync.ensures _ (cc) refl
 
 -- the request that a line asks for is within its limits
-pub slice_bounds-write-end : goal.slice_bounds-write-end
-slice_bounds-write-end c =
-    rw c.write_buffer-bytes.ensures
-    (sym (length_front c.in-Write.count (write_buffer c.in-Write.byte) (omega (arith, length-write_buffer c.in-Write.byte, within_of _ _ (c.in-Some.is ∙ ap Some c.in-Write.is) c.requires))))
+pub write_bytes-requires : goal.write_bytes-requires
+write_bytes-requires c = within_of _ _ (c.in-Some.is ∙ ap Some c.in-Write.is) c.requires
 
 pub returns-in-Write : goal.returns-in-Write
 unfolding run
-returns-in-Write c =
-    let told = c.in-Some.is ∙ ap Some c.in-Write.is in
-    executed_plain _ _ told _ _ _ c.args.cache _ _ _ c.into-in-Write.ensures _
-    (rw (c.write_buffer-bytes.ensures, take-write_buffer c.in-Write.count c.in-Write.byte (within_of _ _ told c.requires)) at c.write.ensures) refl
+returns-in-Write c = executed_plain _ _ (c.in-Some.is ∙ ap Some c.in-Write.is) _ _ _ c.args.cache _ _ _ c.into-in-Write.ensures _ c.write_bytes.ensures refl
 
 pub returns-in-Read : goal.returns-in-Read
 unfolding run

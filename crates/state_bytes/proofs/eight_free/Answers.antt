@@ -1,17 +1,33 @@
 -- `state_bytes::eight_free` meets its contract: 24 bytes are 0 where three words are.
-use mathlib.Core.Path.{◌∙◌}
-use Prim.Native.Nat.{◌+◌, ◌*◌}
+use mathlib.Core.Path.{refl, sym, ◌∙◌}
+use mathlib.Core.Bool.{false≢true}
 use native.Mathlib.Omega.{arith}
-use Rattle.state_bytes.specs.Encoding.{slots_start}
-use Rattle.state_bytes.proofs.Zeros.{zeros-three, slots_tested, slots_short, slots_other}
+use borrow.Author.Tests.{eq-eqb, ne_eqb}
+use Rattle.state_bytes.proofs.Zeros.{three_words, slots_short, slots_other}
+use Rattle.state_bytes.proofs.eight_free.Goals.{then-word_in-eq0, else-word_in-eq0}
 use Rattle.state_bytes.proofs.eight_free.Goals as goal
 
-pub returns-in-Ok : goal.returns-in-Ok
-returns-in-Ok c =
+pub returns-then-word_in-eq0-2 : goal.returns-then-word_in-eq0-2
+returns-then-word_in-eq0-2 c =
     let a = c.args in
-    let w = rw c.in-Ok.is at c.try_from.ensures.1 in
-    rw (c.word_in.ensures, c.word_in-in-Ok.ensures, c.word_in-in-Ok-2.ensures, w.same)
-    (zeros-three a.state.now (slots_start + 3 * a.k) ∙ slots_tested a.state.now a.k 8 w.long (omega arith))
+    let s = rw c.in-Ok.is at c.try_from.ensures.1 in
+    elim c.if-word_in-eq0.branch [
+      | then-word_in-eq0 w ↦ rw (eq-eqb _ 0 w.if-word_in-eq0.true, sym w.value-is ∙ c.if-word_in-eq0-2.true) at
+          (three_words a.state.now a.k _ _ _ s.long (omega arith) (rw s.same at c.word_in.ensures) (rw s.same at w.word_in-then-word_in-eq0.ensures) (rw s.same at c.word_in-then-word_in-eq0-2.ensures))
+      | else-word_in-eq0 w ↦ absurd (false≢true (sym (ne_eqb _ 0 w.if-word_in-eq0.false) ∙ sym w.value-is ∙ c.if-word_in-eq0-2.true))
+    ]
+
+pub returns-else-word_in-eq0-2 : goal.returns-else-word_in-eq0-2
+returns-else-word_in-eq0-2 c =
+    let a = c.args in
+    let s = rw c.in-Ok.is at c.try_from.ensures.1 in
+    c.if-word_in-eq0-2.false ∙
+    elim c.if-word_in-eq0.branch [
+      | then-word_in-eq0 w ↦ rw (eq-eqb _ 0 w.if-word_in-eq0.true, sym w.value-is ∙ c.if-word_in-eq0-2.false) at
+          (three_words a.state.now a.k _ _ _ s.long (omega arith) (rw s.same at c.word_in.ensures) (rw s.same at w.word_in-then-word_in-eq0.ensures) refl)
+      | else-word_in-eq0 w ↦ rw (ne_eqb _ 0 w.if-word_in-eq0.false) at
+          (three_words a.state.now a.k _ _ _ s.long (omega arith) (rw s.same at c.word_in.ensures) refl refl)
+    ]
 
 pub returns-in_default : goal.returns-in_default
 returns-in_default c =
