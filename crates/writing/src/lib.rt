@@ -206,6 +206,7 @@ fn sum_fits(position: usize, n: usize, limit: usize) -> bool
 }
 
 // File `file` is at least n bytes long.
+#[tactic(auto, using(state_bytes::proofs::InPlace::logical_changed, crate::proofs::Arrays::bytes_fit))]
 fn grow(state: &mut [u8; STATE_BYTES], file: usize, n: usize)
     requires { (file < files) × (n < 2 ^ 32) }
     ensures { decode state.new
